@@ -1,0 +1,43 @@
+-- Between guest and host: the search for a guest frame says the same of what is left, and finds what the map sent.
+use mathlib.Core.Path.{_≡_, refl, sym, _∙_, ap}
+use mathlib.Core.Bool.{cond}
+use mathlib.Core.List.{List, [], _∷_}
+use Prim.Native.Nat.{ℕ, zero, suc, _+_, _≤_, _<_}
+use native.Mathlib.Numerals.{add-one}
+use native.Mathlib.Omega.{arith}
+use lib.Dec.{eqb}
+use lib.ListN.{length, getD, drop, drop-of-length-le}
+use lib.Seq.{drop-cons}
+use borrow.Author.Tests.{eq-eqb, ne-eqb}
+use Rattle.paging.specs.declared.Guest.{Guest}
+use Rattle.paging.specs.declared.Host.{Host}
+use Rattle.paging.specs.declared.Origin.the-variants.{Of, Nowhere}
+use Rattle.paging.specs.Frame.{guest, host, hostOf, originFrom, originOf}
+
+module _ (map : List ℕ) (h : Host) where
+  pub origin-here : (i : ℕ) → i < length map → getD map i 0 ≡ h .0 → originFrom i (drop i map) h ≡ Of (guest i)
+  unfolding originFrom
+  origin-here i lt e = rw (drop-cons map i 0 lt) (simp (eq-eqb (getD map i 0) (h .0) e))
+
+  pub origin-next : (i : ℕ) → i < length map → (getD map i 0 ≡ h .0 → ⊥) → originFrom i (drop i map) h ≡ originFrom (i + 1) (drop (i + 1) map) h
+  unfolding originFrom
+  origin-next i lt ne = rw (drop-cons map i 0 lt, add-one i) (simp (ne-eqb (getD map i 0) (h .0) ne))
+
+  pub origin-end : (i : ℕ) → length map ≤ i → originFrom i (drop i map) h ≡ Nowhere
+  unfolding originFrom
+  origin-end i le = rw (drop-of-length-le map le)
+
+-- no map frame repeats
+abbrev pub Distinct : List ℕ → Type 0
+Distinct map = (i j : ℕ) → i < length map → j < length map → getD map i 0 ≡ getD map j 0 → i ≡ j
+
+-- THE SEARCH FINDS THE FRAME THAT THE MAP SENT
+pub origin-host : (map : List ℕ) → Distinct map → (g : Guest) → g .0 < length map → originOf map (hostOf map g) ≡ Of g
+origin-host map one g lt = sym (passed (g .0) (omega arith)) ∙ origin-here map (hostOf map g) (g .0) lt refl
+  where
+    passed : (i : ℕ) → i ≤ g .0 → originFrom i (drop i map) (hostOf map g) ≡ originOf map (hostOf map g)
+    passed zero le = refl
+    passed (suc i) le =
+        let other : getD map i 0 ≡ getD map (g .0) 0 → ⊥ = λ e. let same = one i (g .0) (omega arith) lt e in omega arith in
+        let turn = origin-next map (hostOf map g) i (omega arith) other in
+        (rw (add-one i) at (sym turn)) ∙ passed i (omega arith)

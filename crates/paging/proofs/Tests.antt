@@ -1,0 +1,58 @@
+-- Tests as facts: what a passed `&&`, `||` and `not` say.
+use mathlib.Core.Path.{_≡_, refl}
+use mathlib.Core.Logic.{_↔_, _⊎_, inl, inr}
+use mathlib.Core.Bool.{Bool, true, false, not, _&&_, _||_}
+use Prim.Native.Nat.{ℕ}
+use lib.Dec.{T, eqb, eqb-refl}
+
+pub and-i : (a b : Bool) → T a → T b → T (a && b)
+and-i true b p q = q
+and-i false b p q = p
+
+pub and-l : (a b : Bool) → T (a && b) → T a
+and-l true b t = tt
+and-l false b t = t
+
+pub and-r : (a b : Bool) → T (a && b) → T b
+and-r true b t = t
+and-r false b t = absurd t
+
+pub or-l : (a b : Bool) → T a → T (a || b)
+or-l true b t = tt
+or-l false b t = absurd t
+
+pub or-r : (a b : Bool) → T b → T (a || b)
+or-r true b t = tt
+or-r false b t = t
+
+pub or-cases : (a b : Bool) → T (a || b) → T a ⊎ T b
+or-cases true b t = inl tt
+or-cases false b t = inr t
+
+pub T-true : (b : Bool) → T b → b ≡ true
+T-true true t = refl
+T-true false t = absurd t
+
+pub T-false : (b : Bool) → T (not b) → b ≡ false
+T-false true t = absurd t
+T-false false t = refl
+
+pub true-T : (b : Bool) → b ≡ true → T b
+true-T b e = rw e tt
+
+pub false-T : (b : Bool) → b ≡ false → T (not b)
+false-T b e = rw e tt
+
+pub T-or-not : (b : Bool) → T b ⊎ T (not b)
+T-or-not true = inl tt
+T-or-not false = inr tt
+
+pub eq→eqb : (m n : ℕ) → m ≡ n → T (eqb m n)
+eq→eqb m n e = rw e (eqb-refl n)
+
+-- two tests that pass together are equal
+pub same-test : (a b : Bool) → T a ↔ T b → a ≡ b
+same-test true true e = refl
+same-test false false e = refl
+same-test true false e = absurd (e .0 tt)
+same-test false true e = absurd (e .1 tt)

@@ -1,0 +1,4 @@
+pub mod Frame
+pub mod Layout
+pub mod Walk
+pub mod Request

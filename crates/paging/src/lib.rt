@@ -1,0 +1,215 @@
+// The words of the trade: requests, entries, walks, guest and host frames.
+// Every shift and mask of the project stands here. Callers speak of indices, frames, rights and steps.
+ghost use mathlib.Core.Path.{_≡_};
+ghost use Prim.Native.Nat.{ℕ, _<_, _≤_, _^_};
+ghost use lib.ListN.{length};
+ghost use Rattle.paging.specs.Frame.{hostOf, originOf};
+ghost use Rattle.paging.specs.Layout.{tables64, pageOf, index, frameOf, rightsOf, compose, isPresent, mark, bit};
+ghost use Rattle.paging.specs.Walk.{start, narrowed, downTo, step};
+ghost use Rattle.paging.specs.Request.{requestOf, enough};
+
+// The rights that a request needs, W + 2 U + 4 X, and what it adds to a fault's code.
+pub struct Request {
+    pub needs: u64,
+    pub adds: u64,
+}
+
+const REQUESTS: [Request; 6] = [
+    Request { needs: 0, adds: 0 },
+    Request { needs: 1, adds: 2 },
+    Request { needs: 4, adds: 16 },
+    Request { needs: 2, adds: 4 },
+    Request { needs: 3, adds: 6 },
+    Request { needs: 6, adds: 20 },
+];
+
+pub fn request_of(number: u64) -> Request
+    requires { ⌜ number < 6 ⌝ }
+    ensures { λ r. ⌜ r ≡ requestOf tables64 number ⌝ }
+{
+    REQUESTS[number as usize]
+}
+
+pub fn has_enough(q: Request, rights: u64) -> bool
+    requires { ⌜ (q .needs < 8) × (rights < 8) ⌝ }
+    ensures { λ r. ⌜ r ≡ enough q rights ⌝ }
+{
+    q.needs & rights == q.needs
+}
+
+const INDEX_BITS: u64 = 9;
+
+const INDEX_MASK: u64 = (1 << INDEX_BITS) - 1;
+
+pub fn index_of(page: u64, level: u64) -> usize
+    requires { ⌜ (1 ≤ level) × (level ≤ 4) ⌝ }
+    ensures { λ r. ⌜ r ≡ index tables64 page level ⌝ }
+{
+    ((page >> (INDEX_BITS * (level - 1))) & INDEX_MASK) as usize
+}
+
+pub fn page_of(a: u64) -> u64
+    ensures { λ r. ⌜ r ≡ pageOf tables64 a ⌝ }
+{
+    (a >> 12) & 0xF_FFFF_FFFF
+}
+
+pub fn is_allowed(a: u64) -> bool
+    ensures { λ r. ⌜ r ≡ tables64 .allowed a ⌝ }
+{
+    a < 0x8000_0000_0000 || a >= 0xFFFF_8000_0000_0000
+}
+
+fn flag(e: u64, k: u64) -> u64
+    requires { ⌜ k < 64 ⌝ }
+    ensures { λ r. ⌜ r ≡ bit e k ⌝ }
+{
+    (e >> k) & 1
+}
+
+pub fn present(e: u64) -> bool
+    ensures { λ r. ⌜ r ≡ isPresent e ⌝ }
+{
+    flag(e, 0) == 1
+}
+
+pub fn is_dirty(e: u64) -> u64
+    ensures { λ r. ⌜ r ≡ bit e 6 ⌝ }
+{
+    flag(e, 6)
+}
+
+pub fn frame_of(e: u64) -> u64
+    ensures { λ r. ⌜ r ≡ frameOf tables64 e ⌝ }
+{
+    (e >> 12) & 0xFF_FFFF_FFFF
+}
+
+pub fn rights_of(e: u64) -> u64
+    ensures { λ r. ⌜ r ≡ rightsOf tables64 e ⌝ }
+{
+    flag(e, 1) | (flag(e, 2) << 1) | ((flag(e, 63) ^ 1) << 2)
+}
+
+// The entry with P and A, with these rights, D and frame.
+pub fn composed(rights: u64, d: u64, f: u64) -> u64
+    requires { ⌜ (rights < 8) × (d < 2) × (f < 2 ^ 40) ⌝ }
+    ensures { λ r. ⌜ r ≡ compose tables64 rights d f ⌝ }
+{
+    let rw = flag(rights, 0);
+    let us = flag(rights, 1);
+    let nx = flag(rights, 2) ^ 1;
+    1 | (rw << 1) | (us << 2) | (1 << 5) | (d << 6) | (f << 12) | (nx << 63)
+}
+
+pub fn set_accessed(e: u64) -> u64
+    ensures { λ r. ⌜ r ≡ mark 5 e ⌝ }
+{
+    e | (1 << 5)
+}
+
+pub fn set_dirty(e: u64) -> u64
+    ensures { λ r. ⌜ r ≡ mark 6 e ⌝ }
+{
+    e | (1 << 6)
+}
+
+pub struct Guest(pub u64);
+
+pub struct Host(pub u64);
+
+// The guest frame behind a host frame, if there is one.
+pub enum Origin {
+    Of(Guest),
+    Nowhere,
+}
+
+pub fn host_of(map: &[u64], g: Guest) -> Host
+    requires { ⌜ g .0 < length (now map) ⌝ }
+    ensures { λ r. ⌜ r ≡ hostOf (now (map .entry)) g ⌝ }
+{
+    let i = g.0 as usize;
+    Host(map[i])
+}
+
+pub fn origin_of(map: &[u64], h: Host) -> Origin
+    ensures { λ r. ⌜ r ≡ originOf (now (map .entry)) h ⌝ }
+{
+    let mut i = 0;
+    while i < map.len() {
+        if map[i] == h.0 {
+            return Origin::Of(Guest(i as u64));
+        }
+        i += 1;
+    }
+    Origin::Nowhere
+}
+
+// Where a walk stands: the level of its next entry (0: it is complete), the frame, the rights it has left.
+pub struct Walk {
+    pub level: u64,
+    pub frame: Guest,
+    pub rights: u64,
+}
+
+// What a walk does at an entry: it goes on; P is 0; the frame is none of the guest's; it was complete before.
+pub enum Step {
+    On(Walk),
+    Absent,
+    Beyond,
+    Complete,
+}
+
+impl Walk {
+    pub fn start(cr3: Guest) -> Walk
+        ensures { λ r. ⌜ r ≡ start tables64 cr3 ⌝ }
+    {
+        Walk {
+            level: 4,
+            frame: cr3,
+            rights: 7,
+        }
+    }
+
+    pub fn narrow(self, e: u64) -> Walk
+        requires { ⌜ self .rights < 8 ⌝ }
+        ensures { λ r. ⌜ r ≡ narrowed tables64 self e ⌝ }
+    {
+        let f = self.frame;
+        Walk {
+            level: self.level,
+            frame: f,
+            rights: self.rights & rights_of(e),
+        }
+    }
+
+    pub fn down_to(self, f: Guest) -> Walk
+        requires { ⌜ 1 ≤ self .level ⌝ }
+        ensures { λ r. ⌜ r ≡ downTo self f ⌝ }
+    {
+        Walk {
+            level: self.level - 1,
+            frame: f,
+            rights: self.rights,
+        }
+    }
+
+    pub fn step(self, e: u64, frames: u64) -> Step
+        requires { ⌜ self .rights < 8 ⌝ }
+        ensures { λ r. ⌜ r ≡ step tables64 frames self e ⌝ }
+    {
+        let level = self.level;
+        if level == 0 {
+            return Step::Complete;
+        }
+        if !present(e) {
+            return Step::Absent;
+        }
+        let f = frame_of(e);
+        if f >= frames {
+            return Step::Beyond;
+        }
+        let narrower = self.narrow(e);
+        Step::On(narrower.down_to(Guest(f)))
+    }
+}
