@@ -1,0 +1,6 @@
+pub mod Refusal
+pub mod History
+pub mod View
+pub mod Held
+pub mod Outcome
+pub mod Known
