@@ -4,7 +4,7 @@ use mathlib.Core.Bool.{Bool, true, false, cond, not}
 use Prim.Native.Nat.{ℕ, zero, suc, _-_, _≤_, _<_}
 use native.Mathlib.Omega.{arith}
 use lib.Dec.{T, eqb, ltb}
-use borrow.Author.Tests.{eq-eqb, ne-eqb, lt-ltb, le-ltb, eqb-false, ltb-true}
+use borrow.Author.Tests.{eq-eqb, ne-eqb, lt-ltb, le-ltb, eqb-true, eqb-false, ltb-true}
 use Rattle.paging.specs.declared.Walk.{Walk}
 use Rattle.paging.specs.declared.Step.{Step}
 use Rattle.paging.specs.declared.Step.the-variants.{On, Absent, Beyond, Complete}
@@ -62,3 +62,15 @@ module _ (Y : Layout) (G : ℕ) (w : Walk) (e : ℕ) where
   pub goes : (w′ : Walk) → step Y G w e ≡ On w′ → Goes w′
   unfolding step
   goes w′ s = by-tests w′ (eqb (w .level) 0) (isPresent e) (ltb (frameOf Y e) G) refl refl refl s
+
+  only-done : (done here in-guest : Bool) → eqb (w .level) 0 ≡ done
+      → cond done Complete (cond (not here) Absent (cond in-guest (On (downTo (narrowed Y w e) (guest (frameOf Y e)))) Beyond)) ≡ Complete
+      → w .level ≡ 0
+  only-done true b c p s = eqb-true (w .level) 0 p
+  only-done false false c p s = let z : _≡_ {A = ℕ} 0 1 = cc in absurd (omega arith)
+  only-done false true true p s = let z : _≡_ {A = ℕ} 0 1 = cc in absurd (omega arith)
+  only-done false true false p s = let z : _≡_ {A = ℕ} 0 1 = cc in absurd (omega arith)
+
+  pub completed : step Y G w e ≡ Complete → w .level ≡ 0
+  unfolding step
+  completed s = only-done (eqb (w .level) 0) (isPresent e) (ltb (frameOf Y e) G) refl s

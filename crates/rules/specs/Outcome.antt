@@ -1,13 +1,12 @@
 -- "Outcomes of a question", and the one right list of them.
-use mathlib.Core.Path.{_≡_}
 use mathlib.Core.Logic.{_↔_}
-use mathlib.Core.Bool.{true, false}
+use mathlib.Core.Bool.{cond}
 use mathlib.Core.List.{List, [], _∷_, List·Memᴰ}
 use Prim.Native.Nat.{ℕ, _+_, _<_}
 use Rattle.paging.specs.declared.Walk.{Walk}
 use Rattle.paging.specs.declared.Request.{Request}
 use Rattle.paging.specs.declared.Step.{Step}
-use Rattle.paging.specs.declared.Step.the-variants.{Absent, Beyond, Complete}
+use Rattle.paging.specs.declared.Step.the-variants.{On, Absent, Beyond, Complete}
 use Rattle.paging.specs.Layout.{pageOf}
 use Rattle.paging.specs.Request.{requestOf, enough}
 use Rattle.rules.specs.declared.Event.{Event}
@@ -19,17 +18,18 @@ use Rattle.rules.specs.View.{View, viewOf}
 use Rattle.rules.specs.Held.{Held}
 
 -- What a held walk gives, by what it does at the end: "each guest frame of a held completed walk with enough rights; the
--- rights fault if a held completed walk lacks one; for each held partial walk … the fault its next entry gives".
-pub data Gives (q : Request) (w : Walk) : Step → Outcome → Type 0 where
-  serves : {s : Step} → s ≡ Complete → enough q (w .rights) ≡ true → Gives q w s (Address (w .frame))
-  lacks : {s : Step} → s ≡ Complete → enough q (w .rights) ≡ false → Gives q w s (Fault (1 + q .adds))
-  missing : {s : Step} → s ≡ Absent → Gives q w s (Fault (0 + q .adds))
-  outside : {s : Step} → s ≡ Beyond → Gives q w s (Fault (9 + q .adds))
+-- rights fault if a held completed walk lacks one; for each held partial walk, level 4 included, the fault its next
+-- entry gives at the end". Base codes: "P is 0 … 0; a frame of G or more … 9; … lacks a needed right … 1".
+abbrev pub given : Request → Walk → Step → List Outcome
+given q w (On w′) = []
+given q w Absent = Fault (0 + q .adds) ∷ []
+given q w Beyond = Fault (9 + q .adds) ∷ []
+given q w Complete = cond (enough q (w .rights)) (Address (w .frame)) (Fault (1 + q .adds)) ∷ []
 
 pub record Permitted (seen : View) (q : Request) (n : ℕ) (o : Outcome) : Type 0 where
   pub walk : Walk
   pub held : Held seen n walk
-  pub gives : Gives q walk (seen .steps n walk) o
+  pub gives : List·Memᴰ o (given q walk (seen .steps n walk))
 
 -- "(0, frame) … by rising frame, then (1, code) by rising code, each once"
 abbrev pub Before : Outcome → Outcome → Type 0

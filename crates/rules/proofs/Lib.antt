@@ -1,0 +1,11 @@
+pub mod Order
+pub mod Ranges
+pub mod Lawful
+pub mod Steps
+pub mod Walks
+pub mod Lists
+pub mod Answered
+pub mod Bounds
+pub mod Four
+pub mod Inert
+pub mod Theorems
