@@ -1,4 +1,5 @@
 pub mod Tests
+pub mod Numbers
 pub mod Finite
 pub mod Bits
 pub mod Rights

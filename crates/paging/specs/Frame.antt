@@ -1,14 +1,15 @@
 -- "A guest frame number and a host frame number are two separate counts, and neither may stand where the other is due."
 -- Guest and Host are two types; only the map, here, turns one into the other.
-use mathlib.Core.Bool.{cond}
+use mathlib.Core.Bool.{Bool, cond, not, _&&_}
 use mathlib.Core.List.{List, [], _∷_}
 use Prim.Native.Nat.{ℕ, _+_}
-use lib.Dec.{eqb}
-use lib.ListN.{getD}
+use lib.Dec.{eqb, ltb}
+use lib.ListN.{length, getD}
 use Rattle.paging.specs.declared.Guest.{Guest}
 use Rattle.paging.specs.declared.Host.{Host}
 use Rattle.paging.specs.declared.Origin.{Origin}
 use Rattle.paging.specs.declared.Origin.the-variants.{Of, Nowhere}
+use Rattle.paging.specs.Numbers.{all}
 
 abbrev pub guest : ℕ → Guest
 guest n = record { 0 = n }
@@ -27,3 +28,10 @@ originFrom k (x ∷ xs) h = cond (eqb x (h .0)) (Of (guest k)) (originFrom (k + 
 
 abbrev pub originOf : List ℕ → Host → Origin
 originOf map h = originFrom 0 map h
+
+-- "a map frame repeats, is 2^40 or more": no frame before place i is the one at i, and it is below the limit
+abbrev pub isNew : List ℕ → ℕ → Bool
+isNew map i = all i (λ j. not (eqb (getD map j 0) (getD map i 0)))
+
+unfoldable pub mapFits : ℕ → List ℕ → Bool
+mapFits limit map = all (length map) (λ i. ltb (getD map i 0) limit && isNew map i)

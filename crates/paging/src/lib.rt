@@ -3,7 +3,7 @@
 ghost use mathlib.Core.Path.{_≡_};
 ghost use Prim.Native.Nat.{ℕ, _<_, _≤_, _^_};
 ghost use lib.ListN.{length};
-ghost use Rattle.paging.specs.Frame.{hostOf, originOf};
+ghost use Rattle.paging.specs.Frame.{hostOf, originOf, isNew, mapFits};
 ghost use Rattle.paging.specs.Layout.{tables64, pageOf, index, frameOf, rightsOf, compose, isPresent, mark, bit};
 ghost use Rattle.paging.specs.Walk.{start, narrowed, downTo, step};
 ghost use Rattle.paging.specs.Request.{requestOf, enough};
@@ -143,6 +143,38 @@ pub fn origin_of(map: &[u64], h: Host) -> Origin
         i += 1;
     }
     Origin::Nowhere
+}
+
+fn is_new(map: &[u64], i: usize) -> bool
+    requires { ⌜ i < length (now map) ⌝ }
+    ensures { λ r. ⌜ r ≡ isNew (now (map .entry)) i ⌝ }
+{
+    let f = map[i];
+    let mut j = 0;
+    while j < i {
+        if map[j] == f {
+            return false;
+        }
+        j += 1;
+    }
+    true
+}
+
+// No frame repeats, and none is 2^40 or more.
+pub fn map_fits(map: &[u64]) -> bool
+    ensures { λ r. ⌜ r ≡ mapFits (2 ^ 40) (now (map .entry)) ⌝ }
+{
+    let mut i = 0;
+    while i < map.len() {
+        if map[i] >= 0x100_0000_0000 {
+            return false;
+        }
+        if !is_new(map, i) {
+            return false;
+        }
+        i += 1;
+    }
+    true
 }
 
 // Where a walk stands: the level of its next entry (0: it is complete), the frame, the rights it has left.
