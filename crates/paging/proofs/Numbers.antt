@@ -6,7 +6,7 @@ use native.Mathlib.Numerals.{add-one}
 use native.Mathlib.Decide.{ℕ-discrete}
 use native.Mathlib.Omega.{arith}
 use lib.Dec.{T}
-use Rattle.paging.specs.Numbers.{all}
+use Rattle.paging.specs.Numbers.{all, each}
 use Rattle.paging.proofs.Tests.{and-l, and-r, T-true, true-T}
 
 module _ (f : ℕ → Bool) where
@@ -39,3 +39,12 @@ module _ (f : ℕ → Bool) where
       go : Dec (i ≡ n) → (i < n → f i ≡ true) → f i ≡ true
       go (yes p) ih = rw p (T-true _ (and-r (all n f) _ (true-T _ h)))
       go (no p) ih = ih (omega arith)
+
+module _ {A : Type 0} (f : ℕ → A → A) (x : A) where
+  pub each-none : each 0 f x ≡ x
+  unfolding each
+  each-none = refl
+
+  pub each-more : (n : ℕ) → each (n + 1) f x ≡ f n (each n f x)
+  unfolding each
+  each-more n = rw (add-one n)
