@@ -1,13 +1,15 @@
 -- Laws of the bounded tests: one turn of a loop more, a failing number, and what a passed test says of each.
 use mathlib.Core.Path.{_≡_, refl, sym, _∙_}
-use mathlib.Core.Bool.{Bool, true, false, _&&_}
+use mathlib.Core.Logic.{_⊎_, inl, inr}
+use mathlib.Core.Bool.{Bool, true, false, _&&_, _||_}
 use Prim.Native.Nat.{ℕ, zero, suc, _+_, _≤_, _<_}
 use native.Mathlib.Numerals.{add-one}
 use native.Mathlib.Decide.{ℕ-discrete}
 use native.Mathlib.Omega.{arith}
 use lib.Dec.{T}
-use Rattle.paging.specs.Numbers.{all, each}
-use Rattle.paging.proofs.Tests.{and-l, and-r, T-true, true-T}
+use lib.ListN.{length, getD}
+use Rattle.paging.specs.Numbers.{all, some, each, tab}
+use Rattle.paging.proofs.Tests.{and-l, and-r, or-l, or-r, or-cases, T-true, true-T}
 
 module _ (f : ℕ → Bool) where
   pub all-none : all 0 f ≡ true
@@ -39,6 +41,46 @@ module _ (f : ℕ → Bool) where
       go : Dec (i ≡ n) → (i < n → f i ≡ true) → f i ≡ true
       go (yes p) ih = rw p (T-true _ (and-r (all n f) _ (true-T _ h)))
       go (no p) ih = ih (omega arith)
+
+  -- ---- some
+
+  pub some-none : some 0 f ≡ false
+  unfolding some
+  some-none = refl
+
+  pub some-more : (n : ℕ) → some n f ≡ false → f n ≡ false → some (n + 1) f ≡ false
+  unfolding some
+  some-more n h k = rw (add-one n) (simp (h, k))
+
+  pub some-i : (n i : ℕ) → i < n → f i ≡ true → some n f ≡ true
+  unfolding some
+  some-i zero i h e = absurd (omega arith)
+  some-i (suc n) i h e = T-true _ (go (ℕ-discrete i n) (some-i n i))
+    where
+      go : Dec (i ≡ n) → (i < n → f i ≡ true → some n f ≡ true) → T (some n f || f n)
+      go (yes p) ih = or-r (some n f) (f n) (true-T _ (rw p at e))
+      go (no p) ih = or-l (some n f) (f n) (true-T _ (ih (omega arith) e))
+
+  pub some-e : (n : ℕ) → some n f ≡ true → (i : ℕ) × (i < n) × (f i ≡ true)
+  unfolding some
+  some-e zero e = let z : true ≡ false = sym e in absurd (true-T false (sym z))
+  some-e (suc n) e = go (or-cases (some n f) (f n) (true-T _ e)) (some-e n)
+    where
+      go : T (some n f) ⊎ T (f n) → (some n f ≡ true → (i : ℕ) × (i < n) × (f i ≡ true)) → (i : ℕ) × (i < suc n) × (f i ≡ true)
+      go (inl t) ih = let (i, h, k) = ih (T-true _ t) in (i, omega arith, k)
+      go (inr t) ih = (n, omega arith, T-true _ t)
+
+module _ {A : Type 0} where
+  pub tab-length : (n : ℕ) (f : ℕ → A) → length (tab n f) ≡ n
+  unfolding tab
+  tab-length zero f = refl
+  tab-length (suc n) f = omega (arith, tab-length n (λ k. f (suc k)))
+
+  pub tab-at : (n : ℕ) (f : ℕ → A) (k : ℕ) (d : A) → k < n → getD (tab n f) k d ≡ f k
+  unfolding tab
+  tab-at zero f k d h = absurd (omega arith)
+  tab-at (suc n) f zero d h = refl
+  tab-at (suc n) f (suc k) d h = tab-at n (λ k. f (suc k)) k d (omega arith)
 
 module _ {A : Type 0} (f : ℕ → A → A) (x : A) where
   pub each-none : each 0 f x ≡ x

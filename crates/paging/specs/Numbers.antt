@@ -1,10 +1,16 @@
--- The numbers below n: a test at all of them, how many pass it, the first that does, and work done at each in turn.
-use mathlib.Core.Bool.{Bool, true, cond, _&&_}
+-- The numbers below n: a test at all or some of them, how many pass it, the first that does, and work done at each.
+use mathlib.Core.Bool.{Bool, true, false, cond, _&&_, _||_}
+use mathlib.Core.List.{List, [], _∷_}
 use Prim.Native.Nat.{ℕ, zero, suc, _+_}
+use lib.Dec.{leb}
 
 unfoldable pub all : ℕ → (ℕ → Bool) → Bool
 all zero f = true
 all (suc n) f = all n f && f n
+
+unfoldable pub some : ℕ → (ℕ → Bool) → Bool
+some zero f = false
+some (suc n) f = some n f || f n
 
 unfoldable pub sum : ℕ → (ℕ → ℕ) → ℕ
 sum zero f = 0
@@ -25,3 +31,12 @@ first n f = firstFrom 0 n f
 unfoldable pub each : {A : Type 0} → ℕ → (ℕ → A → A) → A → A
 each zero f x = x
 each (suc n) f x = f n (each n f x)
+
+-- f 0, f 1, .., f (n − 1), as a list
+unfoldable pub tab : {A : Type 0} → ℕ → (ℕ → A) → List A
+tab zero f = []
+tab (suc n) f = f 0 ∷ tab n (λ k. f (suc k))
+
+-- "lo..hi"
+abbrev pub isBetween : ℕ → ℕ → ℕ → Bool
+isBetween lo hi x = leb lo x && leb x hi

@@ -1,4 +1,5 @@
 pub mod Order
+pub mod Refusals
 pub mod Ranges
 pub mod Lawful
 pub mod Steps

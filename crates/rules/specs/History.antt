@@ -7,7 +7,7 @@ use lib.Dec.{eqb, ltb, leb}
 use lib.ListN.{length, getD, set}
 use Rattle.paging.specs.declared.Guest.{Guest}
 use Rattle.paging.specs.Frame.{guest}
-use Rattle.paging.specs.Layout.{Layout, frameWords}
+use Rattle.paging.specs.Layout.{Layout, tables64, frameWords}
 use Rattle.rules.specs.declared.Event.{Event}
 use Rattle.rules.specs.Refusal.{Test, test, refusal}
 
@@ -18,6 +18,9 @@ pub record Setup : Type 0 where
   pub processors : ℕ
   pub words : List ℕ
   pub cr3s : List ℕ
+
+abbrev pub setup64 : ℕ → ℕ → List ℕ → List ℕ → Setup
+setup64 G P words cr3s = record { tables = tables64; frames = G; processors = P; words = words; cr3s = cr3s }
 
 -- "1 store: word a becomes b. 2 INVLPG of address a. 3 CR3 write of frame a. 4 access to a with request b. 5 begin a
 -- walk of a in slot b. 6 extend slot a. 7 drop slot a."

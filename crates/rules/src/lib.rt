@@ -1,5 +1,10 @@
 // What document 01 permits: events, moments, held walks, every permitted outcome of a question.
 use paging::Guest;
+ghost use mathlib.Core.Path.{_≡_};
+ghost use mathlib.Core.Bool.{cond};
+ghost use mathlib.Core.List.{List};
+ghost use Prim.Native.Nat.{ℕ, _≤_};
+ghost use Rattle.rules.specs.History.{setup64, eventRefusal};
 
 // "Four numbers each: processor p, kind, a, b"
 pub struct Event {
@@ -19,4 +24,36 @@ pub struct Question {
 pub enum Outcome {
     Address(Guest),
     Fault(u64),
+}
+
+fn unless(fits: bool, number: u64, rest: u64) -> u64
+    ensures { λ r. ⌜ r ≡ cond fits rest number ⌝ }
+{
+    if fits {
+        return rest;
+    }
+    number
+}
+
+// The lowest number under which an event is refused; 0 if it fits.
+pub fn event_refusal(frames: u64, processors: u64, e: Event) -> u64
+    requires { ⌜ frames ≤ 256 ⌝ }
+    ensures { λ r. ⌜ ((words cr3s : List ℕ) → r ≡ eventRefusal (setup64 frames processors words cr3s) e) ⌝ }
+{
+    let kind = e.kind;
+    let a = e.a;
+    let b = e.b;
+    if e.proc >= processors {
+        return 4;
+    }
+    match kind {
+        1 => unless(a < 512 * frames, 8, 0),
+        2 => unless(paging::is_allowed(a), 5, unless(b == 0, 11, 0)),
+        3 => unless(a < frames, 7, unless(b == 0, 11, 0)),
+        4 => unless(paging::is_allowed(a), 5, unless(b < 6, 6, 0)),
+        5 => unless(paging::is_allowed(a), 5, unless(b < 8, 9, 0)),
+        6 => unless(a < 8, 9, unless(b == 0, 11, 0)),
+        7 => unless(a < 8, 9, unless(b == 0, 11, 0)),
+        _ => 11,
+    }
 }
