@@ -25,6 +25,12 @@ turn : (b : Bool) (x y : ℕ) → cond (not b) x y ≡ cond b y x
 turn true x y = refl
 turn false x y = refl
 
+lower : (k : ℕ) → (k ≡ 1 → ⊥) → (k ≡ 2 → ⊥) → (k ≡ 3 → ⊥) → 0 < k → 4 ≤ k
+lower k a b c h = omega arith
+
+upper : (k : ℕ) → 4 ≤ k → (k ≡ 4 → ⊥) → (k ≡ 5 → ⊥) → (k ≡ 6 → ⊥) → (k ≡ 7 → ⊥) → (7 < k → ⊥) → ⊥
+upper k h a b c d n = omega arith
+
 -- a kind that is none of 1 to 7
 pub known : (k : ℕ) → (k ≡ 1 → ⊥) → (k ≡ 2 → ⊥) → (k ≡ 3 → ⊥) → (k ≡ 4 → ⊥) → (k ≡ 5 → ⊥) → (k ≡ 6 → ⊥) → (k ≡ 7 → ⊥) → (k ≡ 0) ⊎ (7 < k)
 known k n₁ n₂ n₃ n₄ n₅ n₆ n₇ = go (decLt 7 k) (decLt 0 k)
@@ -32,7 +38,7 @@ known k n₁ n₂ n₃ n₄ n₅ n₆ n₇ = go (decLt 7 k) (decLt 0 k)
     go : Dec (7 < k) → Dec (0 < k) → (k ≡ 0) ⊎ (7 < k)
     go (yes a) b = inr a
     go (no a) (no b) = inl (omega arith)
-    go (no a) (yes b) = absurd (omega arith)
+    go (no a) (yes b) = absurd (upper k (lower k n₁ n₂ n₃ b) n₄ n₅ n₆ n₇ a)
 
 module _ (U : Setup) (e : Event) where
   pub too-many : U .processors ≤ e .proc → eventRefusal U e ≡ 4
