@@ -3,12 +3,12 @@ use mathlib.Core.Path.{_≡_, refl, sym}
 use mathlib.Core.Bool.{Bool, true, false, Bool·beq, not, _||_}
 use Prim.Native.Nat.{ℕ, _+_, _*_, _/_, _%_, _^_, _<_, _≤_}
 use native.Mathlib.Omega.{arith}
-use lib.Dec.{T, eqb, eqb→eq}
+use lib.Dec.{T, eqb, ltb, leb, eqb→eq, ltb→lt, leb→le}
 use lib.Bits.{bitAnd}
 use Rattle.paging.specs.declared.Request.{Request}
-use Rattle.paging.specs.Layout.{Layout, rightsOf}
+use Rattle.paging.specs.Layout.{Layout, tables64, rightsOf}
 use Rattle.paging.specs.Walk.{meet}
-use Rattle.paging.specs.Request.{enough}
+use Rattle.paging.specs.Request.{requestOf, enough}
 use Rattle.paging.proofs.Tests.{T-true, true-T, or-cases}
 use Rattle.paging.proofs.Finite.{below, at-below, at-below₂}
 
@@ -51,3 +51,11 @@ enough-meet q a b hn ha hb =
     implies (enough q (meet a b)) (enough q a)
     (at-below 8 (λ n. not (enough (asks n) (meet a b)) || enough (asks n) a)
     (at-below₂ 8 (λ a b. below 8 (λ n. not (enough (asks n) (meet a b)) || enough (asks n) a)) tt a b ha hb) (q .needs) hn)
+
+-- what a request needs and adds is small
+pub request-small : (n : ℕ) → n < 6 → (requestOf tables64 n .needs < 8) × (requestOf tables64 n .adds ≤ 20)
+unfolding requestOf
+request-small n h = (
+  ltb→lt _ 8 (at-below 6 (λ n. ltb (requestOf tables64 n .needs) 8) tt n h),
+  leb→le _ 20 (at-below 6 (λ n. leb (requestOf tables64 n .adds) 20) tt n h),
+)

@@ -1,0 +1,116 @@
+-- What a call that is not refused is known to be: sizes in range, a history that fits, a question within its ranges.
+use mathlib.Core.Path.{_≡_, refl, sym, _∙_, ap}
+use mathlib.Core.Logic.{_⊎_, inl, inr}
+use mathlib.Core.Bool.{Bool, true, false, cond, not, _&&_}
+use mathlib.Core.List.{List, [], _∷_}
+use Prim.Native.Nat.{ℕ, _+_, _*_, _/_, _%_, _^_, _≤_, _<_}
+use native.Mathlib.Omega.{arith}
+use lib.Dec.{T, eqb, ltb, leb}
+use lib.ListN.{length, getD}
+use borrow.Author.Tests.{leb-true, leb-false, ltb-true, ltb-false, eqb-true, not-false}
+use Rattle.paging.specs.Numbers.{isBetween, tab}
+use Rattle.paging.specs.Frame.{mapFits}
+use Rattle.paging.specs.Layout.{tables64, frameWords}
+use Rattle.paging.proofs.Tests.{and-l, and-r, T-true, true-T}
+use Rattle.paging.proofs.Numbers.{all-at, tab-length, tab-at}
+use Rattle.rules.specs.declared.Event.{Event}
+use Rattle.rules.specs.Refusal.{Test, test, refusal}
+use Rattle.rules.specs.History.{Setup, Fit, eventAt, eventRefusal, eventTests}
+use Rattle.rules.specs.Outcome.{questionRefusal}
+use Rattle.rules.proofs.Ranges.{Clear, clear, event-clear, cr3-within}
+use Rattle.marks.specs.Work.{workBytes, Room}
+use Rattle.listing.specs.Call.{Asked, Lent, setupOf, eventOf, eventsOf, sizesFit, lengthsFit, cr3sFit, orElse, firstRefusal, listRefusal}
+use Rattle.listing.specs.Replay.{Reach}
+use Rattle.listing.specs.Answer.{Ready}
+use Rattle.listing.proofs.Refuses.{or-none, first-each}
+
+-- the sizes, one by one
+pub record Sized (map cr3s events words work outcomes : ℕ) : Type 0 where
+  pub some : 1 ≤ map
+  pub few : map ≤ 256
+  pub whole : words ≡ frameWords * map
+  pub bytes : workBytes map ≤ work
+  pub pairs : 2 * (map + 3) ≤ outcomes
+
+sized : (m p e w k o : ℕ) → sizesFit m p e w k o ≡ true → Sized m p e w k o
+unfolding sizesFit
+sized m p e w k o h =
+    let t = true-T _ h in
+    let t₁ = and-r (isBetween 1 256 m) _ t in
+    let t₂ = and-r (isBetween 1 4 p) _ t₁ in
+    let t₃ = and-r (eqb (e % 4) 0) _ t₂ in
+    let t₄ = and-r (leb (e / 4) 4096) _ t₃ in
+    let t₅ = and-r (eqb w (frameWords * m)) _ t₄ in
+    let t₀ = and-l (isBetween 1 256 m) _ t in
+    record {
+      some = leb-true 1 m (T-true _ (and-l (leb 1 m) _ t₀));
+      few = leb-true m 256 (T-true _ (and-r (leb 1 m) _ t₀));
+      whole = eqb-true w (frameWords * m) (T-true _ (and-l (eqb w (frameWords * m)) _ t₄));
+      bytes = leb-true (workBytes m) k (T-true _ (and-l (leb (workBytes m) k) _ t₅));
+      pairs = leb-true (2 * (m + 3)) o (T-true _ (and-r (leb (workBytes m) k) _ t₅));
+    }
+
+module _ (q : Asked) (b : Lent) where
+  pub record Accepted : Type 0 where
+    pub sizes : Sized (length (q .map)) (length (q .cr3s)) (length (q .events)) (length (b .words)) (length (b .work)) (length (b .outcomes))
+    pub starts : (p : ℕ) → p < length (q .cr3s) → getD (q .cr3s) p 0 < length (q .map)
+    pub events : (k : ℕ) → k < length (q .events) / 4 → eventRefusal (setupOf q b) (eventOf (q .events) k) ≡ 0
+    pub proc : q .question .proc < length (q .cr3s)
+    pub request : q .question .request < 6
+
+  accepted-by : Clear (test 1 (not (lengthsFit q b)) ∷ test 2 (not (mapFits (2 ^ 40) (q .map))) ∷ test 7 (not (cr3sFit (length (q .map)) (q .cr3s))) ∷ [])
+      → firstRefusal (length (q .events) / 4) (λ k. eventRefusal (setupOf q b) (eventOf (q .events) k)) ≡ 0
+      → questionRefusal (setupOf q b) (q .question) ≡ 0 → Accepted
+  unfolding cr3sFit
+  accepted-by c es qs =
+      let asks = event-clear (setupOf q b) (record { proc = q .question .proc; kind = 4; a = q .question .addr; b = q .question .request }) qs in
+      record {
+        sizes = sized _ _ _ _ _ _ (not-false _ (c .0));
+        starts = λ p h. ltb-true _ _ (all-at (λ p. ltb (getD (q .cr3s) p 0) (length (q .map))) (length (q .cr3s)) (not-false _ (c .1 .1 .0)) p h);
+        events = first-each (λ k. eventRefusal (setupOf q b) (eventOf (q .events) k)) (length (q .events) / 4) es;
+        proc = leb-false (length (q .cr3s)) (q .question .proc) (asks .0);
+        request = omega (arith, ltb-false 5 (q .question .request) (asks .1 .1 .0));
+      }
+
+  pub accepted : listRefusal q b ≡ 0 → Accepted
+  unfolding listRefusal
+  accepted z =
+      let (head, later) = or-none _ _ z in
+      let (es, qs) = or-none _ _ later in
+      accepted-by (clear _ (omega arith, (omega arith, (omega arith, tt))) head) es qs
+
+  module _ (ok : Accepted) where
+    pub room : Room (length (q .map)) (b .words) (b .work)
+    room = record { few = ok .sizes .few; whole = ok .sizes .whole; bytes = ok .sizes .bytes }
+
+    pub event-at : (k : ℕ) → k < length (q .events) / 4 → eventAt (eventsOf (q .events)) k ≡ eventOf (q .events) k
+    unfolding eventsOf
+    event-at k h = tab-at (length (q .events) / 4) (eventOf (q .events)) k (record { proc = 0; kind = 0; a = 0; b = 0 }) h
+
+    pub events-length : length (eventsOf (q .events)) ≡ length (q .events) / 4
+    unfolding eventsOf
+    events-length = tab-length (length (q .events) / 4) (eventOf (q .events))
+
+    pub fit : Fit (setupOf q b) (eventsOf (q .events))
+    fit = record {
+      starts = ok .starts;
+      events = λ k h. let lt : k < length (q .events) / 4 = omega (arith, events-length) in ap (eventRefusal (setupOf q b)) (event-at k lt) ∙ ok .events k lt;
+    }
+
+    pub reach : (k : ℕ) → k < length (q .events) / 4 → Reach (length (q .map)) (eventOf (q .events) k)
+    reach k h = record { word = word; cr3 = λ e. cr3-within (setupOf q b) (eventOf (q .events) k) (ok .events k h) (rw e refl) }
+      where
+        word : eventOf (q .events) k .kind ≡ 1 → eventOf (q .events) k .a < frameWords * length (q .map)
+        word e =
+            let tests = event-clear (setupOf q b) (eventOf (q .events) k) (ok .events k h) in
+            leb-false (frameWords * length (q .map)) (eventOf (q .events) k .a) (rw e at (tests .1 .1 .1 .1 .0))
+
+    pub ready : Ready (length (q .map)) (b .words) (b .work) (b .outcomes) (q .events) (q .question) (getD (q .cr3s) (q .question .proc) 0)
+    ready = record {
+      room = room;
+      some = ok .sizes .some;
+      start-in = ok .starts (q .question .proc) (ok .proc);
+      reach = reach;
+      request = ok .request;
+      pairs = ok .sizes .pairs;
+    }

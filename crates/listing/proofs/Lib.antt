@@ -1,0 +1,9 @@
+pub mod Applies
+pub mod Bytes
+pub mod Refuses
+pub mod Accepts
+pub mod Replays
+pub mod Pairs
+pub mod Collects
+pub mod Promise
+pub mod Theorems

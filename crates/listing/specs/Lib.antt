@@ -1,0 +1,4 @@
+pub mod Call
+pub mod Replay
+pub mod Collect
+pub mod Answer
