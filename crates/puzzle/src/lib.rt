@@ -1,0 +1,123 @@
+// From the bytes of a puzzle to its map, CR3s, words, events and questions, or to the first fault's number and line.
+use cursor::Cursor;
+use cursor::Next;
+ghost use mathlib.Core.Path.{_≡_};
+ghost use mathlib.Core.Bool.{not};
+ghost use Prim.Native.Nat.{_≤_};
+ghost use lib.ListN.{length, take};
+ghost use Rattle.puzzle.specs.Sections.{has, wordRange, aRange, bRange, eventRange, questionRange, width, countRange, inRange};
+
+// The sections of a puzzle text, in their order.
+pub enum Section {
+    Map,
+    Cr3s,
+    Words,
+    Events,
+    Questions,
+}
+
+// The count of each section, or a refusal number and its line.
+pub enum ReadResult {
+    Accepted {
+        frames: u64,
+        processors: u64,
+        words: u64,
+        events: u64,
+        questions: u64,
+    },
+    Refused(u64, u64),
+}
+
+fn is_new(before: &[u64], n: usize, v: u64) -> bool
+    requires { ⌜ n ≤ length (now before) ⌝ }
+    ensures { λ r. ⌜ r ≡ not (has v (take n (now (before .entry)))) ⌝ }
+{
+    let mut i = 0;
+    while i < n {
+        if before[i] == v {
+            return false;
+        }
+        i += 1;
+    }
+    true
+}
+
+fn in_word_range(g: u64, before: &[u64], i: usize, v: u64) -> bool
+    requires { ⌜ (g ≤ 16) × (i ≤ length (now before)) ⌝ }
+    ensures { λ r. ⌜ r ≡ wordRange g (take i (now (before .entry))) v ⌝ }
+{
+    if i % 2 != 0 {
+        return true;
+    }
+    if v >= 512 * g {
+        return false;
+    }
+    if i == 0 {
+        return true;
+    }
+    before[i - 2] < v
+}
+
+fn in_a_range(g: u64, kind: u64, a: u64) -> bool
+    requires { ⌜ g ≤ 16 ⌝ }
+    ensures { λ r. ⌜ r ≡ aRange g kind a ⌝ }
+{
+    if kind == 1 {
+        return a < 512 * g;
+    }
+    if kind == 3 {
+        return a < g;
+    }
+    if kind == 6 {
+        return a <= 7;
+    }
+    if kind == 7 {
+        return a <= 7;
+    }
+    paging::is_allowed(a)
+}
+
+fn in_b_range(kind: u64, b: u64) -> bool
+    ensures { λ r. ⌜ r ≡ bRange kind b ⌝ }
+{
+    if kind == 1 {
+        return true;
+    }
+    if kind == 4 {
+        return b <= 5;
+    }
+    if kind == 5 {
+        return b <= 7;
+    }
+    b == 0
+}
+
+fn in_event_range(g: u64, p: u64, before: &[u64], i: usize, v: u64) -> bool
+    requires { ⌜ (g ≤ 16) × (i ≤ length (now before)) ⌝ }
+    ensures { λ r. ⌜ r ≡ eventRange g p (take i (now (before .entry))) v ⌝ }
+{
+    let part = i % 4;
+    if part == 0 {
+        return v < p;
+    }
+    if part == 1 {
+        return 1 <= v && v <= 7;
+    }
+    if part == 2 {
+        return in_a_range(g, before[i - 1], v);
+    }
+    in_b_range(before[i - 2], v)
+}
+
+fn in_question_range(p: u64, i: usize, v: u64) -> bool
+    ensures { λ r. ⌜ r ≡ questionRange p i v ⌝ }
+{
+    let part = i % 3;
+    if part == 0 {
+        return v < p;
+    }
+    if part == 1 {
+        return paging::is_allowed(v);
+    }
+    v <= 5
+}
