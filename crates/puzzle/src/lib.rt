@@ -3,9 +3,12 @@ use cursor::Cursor;
 use cursor::Next;
 ghost use mathlib.Core.Path.{_≡_};
 ghost use mathlib.Core.Bool.{not};
-ghost use Prim.Native.Nat.{_≤_};
+ghost use mathlib.Core.List.{[]};
+ghost use Prim.Native.Nat.{_*_, _≤_};
 ghost use lib.ListN.{length, take};
-ghost use Rattle.puzzle.specs.Sections.{has, wordRange, aRange, bRange, eventRange, questionRange, width, countRange, inRange};
+ghost use Rattle.cursor.specs.Text.{Stands};
+ghost use Rattle.puzzle.specs.Sections.{has, mapRange, wordRange, aRange, bRange, eventRange, questionRange, width, countRange, inRange, numbers, section};
+ghost use Rattle.puzzle.specs.Parts.{capacity, PartIs};
 
 // The sections of a puzzle text, in their order.
 pub enum Section {
@@ -14,6 +17,12 @@ pub enum Section {
     Words,
     Events,
     Questions,
+}
+
+// The count of a section and the cursor after it, or a refusal number and its line.
+pub enum Part {
+    Read(u64, Cursor),
+    Refused(u64, u64),
 }
 
 // The count of each section, or a refusal number and its line.
@@ -40,6 +49,16 @@ fn is_new(before: &[u64], n: usize, v: u64) -> bool
         i += 1;
     }
     true
+}
+
+fn in_map_range(before: &[u64], i: usize, v: u64) -> bool
+    requires { ⌜ i ≤ length (now before) ⌝ }
+    ensures { λ r. ⌜ r ≡ mapRange (take i (now (before .entry))) v ⌝ }
+{
+    if v >= 0x10_0000 {
+        return false;
+    }
+    is_new(before, i, v)
 }
 
 fn in_word_range(g: u64, before: &[u64], i: usize, v: u64) -> bool
@@ -120,4 +139,75 @@ fn in_question_range(p: u64, i: usize, v: u64) -> bool
         return paging::is_allowed(v);
     }
     v <= 5
+}
+
+fn in_range(section: Section, g: u64, p: u64, before: &[u64], i: usize, v: u64) -> bool
+    requires { ⌜ (g ≤ 16) × (i ≤ length (now before)) ⌝ }
+    ensures { λ r. ⌜ r ≡ inRange section g p (take i (now (before .entry))) v ⌝ }
+{
+    match section {
+        Section::Map => in_map_range(before, i, v),
+        Section::Cr3s => v < g,
+        Section::Words => in_word_range(g, before, i, v),
+        Section::Events => in_event_range(g, p, before, i, v),
+        Section::Questions => in_question_range(p, i, v),
+    }
+}
+
+fn width_of(section: Section) -> usize
+    ensures { λ r. ⌜ r ≡ width section ⌝ }
+{
+    match section {
+        Section::Map => 1,
+        Section::Cr3s => 1,
+        Section::Words => 2,
+        Section::Events => 4,
+        Section::Questions => 3,
+    }
+}
+
+fn in_count_range(section: Section, g: u64, n: u64) -> bool
+    requires { ⌜ g ≤ 16 ⌝ }
+    ensures { λ r. ⌜ r ≡ countRange section g n ⌝ }
+{
+    match section {
+        Section::Map => 1 <= n && n <= 16,
+        Section::Cr3s => 1 <= n && n <= 4,
+        Section::Words => n <= 512 * g,
+        Section::Events => n <= 256,
+        Section::Questions => 1 <= n && n <= 16,
+    }
+}
+
+fn read_numbers(
+    text: &[u8],
+    from: Cursor,
+    section: Section,
+    g: u64,
+    p: u64,
+    count: u64,
+    buffer: &mut [u64],
+) -> Part
+    requires { ⌜ Stands (now text) from × (g ≤ 16) × (count * width section ≤ length (now buffer)) ⌝ }
+    ensures { λ r. ⌜ PartIs (numbers (inRange section g p) (now (text .entry)) (count * width section) [] (from .at)) (width section) (now (text .entry)) (now (buffer .entry)) (now (buffer .exit)) r ⌝ }
+{
+    let n = count as usize * width_of(section);
+    let mut c = from;
+    let mut i = 0;
+    while i < n {
+        match cursor::next_number(text, c) {
+            Next::Bad(line) => {
+                return Part::Refused(10, line);
+            }
+            Next::Number(v, after) => {
+                if !in_range(section, g, p, buffer, i, v) {
+                    return Part::Refused(11, after.line);
+                }
+                buffer[i] = v;
+                c = after;
+                i += 1;
+            }
+        }
+    }
+    Part::Read(count, c)
 }
