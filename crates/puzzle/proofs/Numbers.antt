@@ -1,10 +1,12 @@
 -- One number further: what is left to read gives the same.
 use mathlib.Core.Path.{_≡_, refl, sym, ap, ap₂, _∙_}
-use mathlib.Core.Bool.{Bool, true, false, cond}
+use mathlib.Core.Bool.{Bool, true, false, cond, _&&_, false≢true}
 use mathlib.Core.List.{List, [], _∷_, _++_}
-use Prim.Native.Nat.{ℕ, zero, suc, _+_, _-_, _≤_, _<_}
+use Prim.Native.Nat.{ℕ, zero, suc, _+_, _-_, _*_, _≤_, _<_}
 use native.Mathlib.Numerals.{add-one}
 use native.Mathlib.Omega.{arith}
+use lib.Dec.{leb}
+use borrow.Author.Tests.{leb-true}
 use lib.ListN.{length, take, drop, set, length-set}
 use lib.Seq.{take-suc-set, drop-set-lt}
 use Rattle.cursor.specs.declared.Cursor.{Cursor}
@@ -12,8 +14,10 @@ use Rattle.cursor.specs.declared.Next.{Next}
 use Rattle.cursor.specs.declared.Next.the-variants.{Number, Bad}
 use Rattle.cursor.specs.Text.{Stands, nextAt}
 use Rattle.cursor.proofs.Runs.{next-stands}
-use Rattle.puzzle.specs.Sections.{Got, got, refused, _then_, judged, due, numbers}
-use Rattle.puzzle.specs.Parts.{Front}
+use Rattle.puzzle.specs.declared.Section.{Section}
+use Rattle.puzzle.specs.declared.Section.the-variants.{Map, Cr3s, Words, Events, Questions}
+use Rattle.puzzle.specs.Sections.{Got, got, refused, _then_, judged, due, numbers, width, countRange, inRange, section}
+use Rattle.puzzle.specs.Parts.{capacity, Front}
 
 module _ (fits : ℕ → Bool) (text : List ℕ) (at : ℕ) where
   pub due-bad : {line : ℕ} → Bad line ≡ nextAt text at → due fits text at ≡ refused 10 line
@@ -100,3 +104,27 @@ module _ {fits : List ℕ → ℕ → Bool} {text old : List ℕ} {at n : ℕ} {
         stays = w .stays;
         stands = w .stands;
       }
+
+module _ (k : Section) (G P : ℕ) (text : List ℕ) (at : ℕ) where
+  abbrev listed : ℕ → ℕ → Got (List ℕ)
+  listed n at = numbers (inRange k G P) text (n * width k) [] at
+
+  pub section-refused : {number line : ℕ} → due (countRange k G) text at ≡ refused number line → section k G P text at ≡ refused number line
+  unfolding section
+  section-refused e = ap (λ (r : Got ℕ). r then listed) e
+
+  pub section-counted : {n to : ℕ} → due (countRange k G) text at ≡ got n to → section k G P text at ≡ numbers (inRange k G P) text (n * width k) [] to
+  unfolding section
+  section-counted e = ap (λ (r : Got ℕ). r then listed) e
+
+both-second : (a b : Bool) → (a && b) ≡ true → b ≡ true
+both-second true b e = e
+both-second false b e = absurd (false≢true e)
+
+-- a count in range has room in its buffer
+pub count-fits : (k : Section) (G n : ℕ) → G ≤ 16 → countRange k G n ≡ true → n * width k ≤ capacity k
+count-fits Map G n h e = omega (arith, leb-true n 16 (both-second (leb 1 n) (leb n 16) e))
+count-fits Cr3s G n h e = omega (arith, leb-true n 4 (both-second (leb 1 n) (leb n 4) e))
+count-fits Words G n h e = omega (arith, leb-true n (512 * G) e)
+count-fits Events G n h e = omega (arith, leb-true n 256 e)
+count-fits Questions G n h e = omega (arith, leb-true n 16 (both-second (leb 1 n) (leb n 16) e))

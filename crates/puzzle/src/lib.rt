@@ -141,11 +141,11 @@ fn in_question_range(p: u64, i: usize, v: u64) -> bool
     v <= 5
 }
 
-fn in_range(section: Section, g: u64, p: u64, before: &[u64], i: usize, v: u64) -> bool
+fn in_range(which: Section, g: u64, p: u64, before: &[u64], i: usize, v: u64) -> bool
     requires { ⌜ (g ≤ 16) × (i ≤ length (now before)) ⌝ }
-    ensures { λ r. ⌜ r ≡ inRange section g p (take i (now (before .entry))) v ⌝ }
+    ensures { λ r. ⌜ r ≡ inRange which g p (take i (now (before .entry))) v ⌝ }
 {
-    match section {
+    match which {
         Section::Map => in_map_range(before, i, v),
         Section::Cr3s => v < g,
         Section::Words => in_word_range(g, before, i, v),
@@ -154,10 +154,10 @@ fn in_range(section: Section, g: u64, p: u64, before: &[u64], i: usize, v: u64) 
     }
 }
 
-fn width_of(section: Section) -> usize
-    ensures { λ r. ⌜ r ≡ width section ⌝ }
+fn width_of(which: Section) -> usize
+    ensures { λ r. ⌜ r ≡ width which ⌝ }
 {
-    match section {
+    match which {
         Section::Map => 1,
         Section::Cr3s => 1,
         Section::Words => 2,
@@ -166,11 +166,11 @@ fn width_of(section: Section) -> usize
     }
 }
 
-fn in_count_range(section: Section, g: u64, n: u64) -> bool
+fn in_count_range(which: Section, g: u64, n: u64) -> bool
     requires { ⌜ g ≤ 16 ⌝ }
-    ensures { λ r. ⌜ r ≡ countRange section g n ⌝ }
+    ensures { λ r. ⌜ r ≡ countRange which g n ⌝ }
 {
-    match section {
+    match which {
         Section::Map => 1 <= n && n <= 16,
         Section::Cr3s => 1 <= n && n <= 4,
         Section::Words => n <= 512 * g,
@@ -182,16 +182,16 @@ fn in_count_range(section: Section, g: u64, n: u64) -> bool
 fn read_numbers(
     text: &[u8],
     from: Cursor,
-    section: Section,
+    which: Section,
     g: u64,
     p: u64,
     count: u64,
     buffer: &mut [u64],
 ) -> Part
-    requires { ⌜ Stands (now text) from × (g ≤ 16) × (count * width section ≤ length (now buffer)) ⌝ }
-    ensures { λ r. ⌜ PartIs (numbers (inRange section g p) (now (text .entry)) (count * width section) [] (from .at)) (width section) (now (text .entry)) (now (buffer .entry)) (now (buffer .exit)) r ⌝ }
+    requires { ⌜ Stands (now text) from × (g ≤ 16) × (count * width which ≤ length (now buffer)) ⌝ }
+    ensures { λ r. ⌜ PartIs (numbers (inRange which g p) (now (text .entry)) (count * width which) [] (from .at)) (width which) (now (text .entry)) (now (buffer .entry)) (now (buffer .exit)) r ⌝ }
 {
-    let n = count as usize * width_of(section);
+    let n = count as usize * width_of(which);
     let mut c = from;
     let mut i = 0;
     while i < n {
@@ -200,7 +200,7 @@ fn read_numbers(
                 return Part::Refused(10, line);
             }
             Next::Number(v, after) => {
-                if !in_range(section, g, p, buffer, i, v) {
+                if !in_range(which, g, p, buffer, i, v) {
                     return Part::Refused(11, after.line);
                 }
                 buffer[i] = v;
@@ -210,4 +210,27 @@ fn read_numbers(
         }
     }
     Part::Read(count, c)
+}
+
+// A section after its count. The buffer has room for the longest one.
+fn read_section(
+    text: &[u8],
+    from: Cursor,
+    which: Section,
+    g: u64,
+    p: u64,
+    buffer: &mut [u64],
+) -> Part
+    requires { ⌜ Stands (now text) from × (g ≤ 16) × (length (now buffer) ≡ capacity which) ⌝ }
+    ensures { λ r. ⌜ PartIs (section which g p (now (text .entry)) (from .at)) (width which) (now (text .entry)) (now (buffer .entry)) (now (buffer .exit)) r ⌝ }
+{
+    match cursor::next_number(text, from) {
+        Next::Bad(line) => Part::Refused(10, line),
+        Next::Number(count, c) => {
+            if !in_count_range(which, g, count) {
+                return Part::Refused(11, c.line);
+            }
+            read_numbers(text, c, which, g, p, count, buffer)
+        }
+    }
 }
