@@ -100,8 +100,7 @@ module _ {fits : List ℕ → ℕ → Bool} {text old : List ℕ} {at n : ℕ} {
       let s : i ≡ n = omega (arith, w .here) in
       record {
         says = sym (w .left) ∙ ap₂ (λ (k j : ℕ). numbers fits text k (take j new) (c .at)) e s;
-        fits = w .room;
-        stays = w .stays;
+        kept = record { fits = w .room; stays = w .stays };
         stands = w .stands;
       }
 

@@ -1,15 +1,19 @@
 -- What the functions below `read` promise: a section is read into the front of a buffer.
 use mathlib.Core.Path.{_≡_}
+use mathlib.Core.Bool.{cond}
 use mathlib.Core.List.{List}
 use Prim.Native.Nat.{ℕ, _*_, _≤_}
+use lib.Dec.{eqb}
 use lib.ListN.{length, take, drop}
 use Rattle.cursor.specs.declared.Cursor.{Cursor}
-use Rattle.cursor.specs.Text.{Stands}
+use Rattle.cursor.specs.Text.{Stands, lineAt, pastBlanks}
 use Rattle.puzzle.specs.declared.Section.{Section}
 use Rattle.puzzle.specs.declared.Section.the-variants.{Map, Cr3s, Words, Events, Questions}
 use Rattle.puzzle.specs.declared.Part.{Part}
 use Rattle.puzzle.specs.declared.Part.the-variants.{Read, Refused}
-use Rattle.puzzle.specs.Sections.{Got, got, refused}
+use Rattle.puzzle.specs.declared.ReadResult.{ReadResult}
+use Rattle.puzzle.specs.declared.ReadResult.the-variants as result
+use Rattle.puzzle.specs.Sections.{Got, got, refused, Puzzle, puzzleOf}
 
 -- how many numbers a section has at most
 abbrev pub capacity : Section → ℕ
@@ -19,13 +23,50 @@ capacity Words = 16384
 capacity Events = 1024
 capacity Questions = 48
 
--- n numbers stand in front, the rest of the buffer stays, and c stands after them
-pub record Front (m : Got (List ℕ)) (text old new : List ℕ) (n : ℕ) (c : Cursor) : Type 0 where
-  pub says : m ≡ got (take n new) (c .at)
+-- a buffer holds n numbers in front and is as it was after them
+pub record Kept (old new : List ℕ) (n : ℕ) : Type 0 where
   pub fits : n ≤ length new
   pub stays : drop n new ≡ drop n old
+
+-- a section's n numbers stand in front of a buffer, and c stands after them in the text
+pub record Front (m : Got (List ℕ)) (text old new : List ℕ) (n : ℕ) (c : Cursor) : Type 0 where
+  pub says : m ≡ got (take n new) (c .at)
+  pub kept : Kept old new n
   pub stands : Stands text c
 
-abbrev pub PartIs : Got (List ℕ) → ℕ → List ℕ → List ℕ → List ℕ → Part → Type 0
-PartIs m w text old new (Read count c) = Front m text old new (count * w) c
-PartIs m w text old new (Refused number line) = m ≡ refused number line
+pub record PartIs (m : Got (List ℕ)) (w : ℕ) (text old new : List ℕ) (r : Part) : Type 0 where
+  pub read : {count : ℕ} {c : Cursor} → r ≡ Read count c → Front m text old new (count * w) c
+  pub fault : {number line : ℕ} → r ≡ Refused number line → m ≡ refused number line
+
+-- the end of the text: counts, or the place of what is left over
+abbrev pub EndIs : List ℕ → ℕ → ReadResult → ReadResult → Type 0
+EndIs text at counts r = r ≡ cond (eqb (pastBlanks text at) (length text)) counts (result.Refused 10 (lineAt text (pastBlanks text at)))
+
+-- five lists
+abbrev pub lists : List ℕ → List ℕ → List ℕ → List ℕ → List ℕ → Puzzle
+lists map cr3s pairs events questions = record { map = map; cr3s = cr3s; pairs = pairs; events = events; questions = questions }
+
+-- what stands in front of five buffers
+abbrev pub fronts : Puzzle → ℕ → ℕ → ℕ → ℕ → ℕ → Puzzle
+fronts b i j k l m = lists (take i (b .map)) (take j (b .cr3s)) (take k (b .pairs)) (take l (b .events)) (take m (b .questions))
+
+-- as many elements as the longest sections have numbers
+pub record Sized (b : Puzzle) : Type 0 where
+  pub map : length (b .map) ≡ 16
+  pub cr3s : length (b .cr3s) ≡ 4
+  pub pairs : length (b .pairs) ≡ 16384
+  pub events : length (b .events) ≡ 1024
+  pub questions : length (b .questions) ≡ 48
+
+-- the text is a puzzle with these counts, and it stands in the buffers
+pub record Whole (text : List ℕ) (old new : Puzzle) (g p w e q : ℕ) : Type 0 where
+  pub says : puzzleOf text ≡ got (fronts new g p (w * 2) (e * 4) (q * 3)) (length text)
+  pub map : Kept (old .map) (new .map) g
+  pub cr3s : Kept (old .cr3s) (new .cr3s) p
+  pub pairs : Kept (old .pairs) (new .pairs) (w * 2)
+  pub events : Kept (old .events) (new .events) (e * 4)
+  pub questions : Kept (old .questions) (new .questions) (q * 3)
+
+pub record SectionsAre (text : List ℕ) (old new : Puzzle) (r : ReadResult) : Type 0 where
+  pub read : {g p w e q : ℕ} → r ≡ result.Accepted g p w e q → Whole text old new g p w e q
+  pub fault : {number line : ℕ} → r ≡ result.Refused number line → puzzleOf text ≡ refused number line

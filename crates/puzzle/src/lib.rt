@@ -8,7 +8,7 @@ ghost use Prim.Native.Nat.{_*_, _≤_};
 ghost use lib.ListN.{length, take};
 ghost use Rattle.cursor.specs.Text.{Stands};
 ghost use Rattle.puzzle.specs.Sections.{has, mapRange, wordRange, aRange, bRange, eventRange, questionRange, width, countRange, inRange, numbers, section};
-ghost use Rattle.puzzle.specs.Parts.{capacity, PartIs};
+ghost use Rattle.puzzle.specs.Parts.{capacity, lists, Sized, PartIs, EndIs, SectionsAre};
 
 // The sections of a puzzle text, in their order.
 pub enum Section {
@@ -232,5 +232,65 @@ fn read_section(
             }
             read_numbers(text, c, which, g, p, count, buffer)
         }
+    }
+}
+
+// Only blanks may follow the last section.
+fn finish(text: &[u8], c: Cursor, counts: ReadResult) -> ReadResult
+    requires { ⌜ Stands (now text) c ⌝ }
+    ensures { λ r. ⌜ EndIs (now (text .entry)) (c .at) counts r ⌝ }
+{
+    let end = cursor::skip(text, c);
+    if end.at < text.len() {
+        return ReadResult::Refused(10, end.line);
+    }
+    counts
+}
+
+// All sections in their order, each into its buffer; the words as pairs of word and value.
+fn read_sections(
+    text: &[u8],
+    map: &mut [u64],
+    cr3s: &mut [u64],
+    pairs: &mut [u64],
+    events: &mut [u64],
+    questions: &mut [u64],
+) -> ReadResult
+    requires { ⌜ Sized (lists (now map) (now cr3s) (now pairs) (now events) (now questions)) ⌝ }
+    ensures { λ r. ⌜ SectionsAre (now (text .entry)) (lists (now (map .entry)) (now (cr3s .entry)) (now (pairs .entry)) (now (events .entry)) (now (questions .entry))) (lists (now (map .exit)) (now (cr3s .exit)) (now (pairs .exit)) (now (events .exit)) (now (questions .exit))) r ⌝ }
+{
+    let start = Cursor { at: 0, line: 1 };
+    match read_section(text, start, Section::Map, 0, 0, map) {
+        Part::Refused(number, line) => ReadResult::Refused(number, line),
+        Part::Read(g, c1) => match read_section(text, c1, Section::Cr3s, g, 0, cr3s) {
+            Part::Refused(number, line) => ReadResult::Refused(number, line),
+            Part::Read(p, c2) => match read_section(text, c2, Section::Words, g, p, pairs) {
+                Part::Refused(number, line) => ReadResult::Refused(number, line),
+                Part::Read(w, c3) => match read_section(text, c3, Section::Events, g, p, events) {
+                    Part::Refused(number, line) => ReadResult::Refused(number, line),
+                    Part::Read(e, c4) => match read_section(
+                        text,
+                        c4,
+                        Section::Questions,
+                        g,
+                        p,
+                        questions,
+                    ) {
+                        Part::Refused(number, line) => ReadResult::Refused(number, line),
+                        Part::Read(q, c5) => finish(
+                            text,
+                            c5,
+                            ReadResult::Accepted {
+                                frames: g,
+                                processors: p,
+                                words: w,
+                                events: e,
+                                questions: q,
+                            },
+                        ),
+                    },
+                },
+            },
+        },
     }
 }

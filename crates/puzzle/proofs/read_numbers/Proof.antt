@@ -9,6 +9,7 @@ use borrow.Author.Needs.{needs}
 use borrow.Author.Tests.{not-true, not-false}
 use Rattle.puzzle.specs.Sections.{width, inRange, numbers, refused}
 use Rattle.puzzle.specs.Parts.{Front}
+use Rattle.puzzle.proofs.Cases.{part-by}
 use Rattle.puzzle.proofs.Numbers.{Turned, turn-start, turn-bad, turn-out, turn-more, turn-end}
 use Rattle.puzzle.proofs.read_numbers.Statement.{statement}
 use Rattle.puzzle.proofs.read_numbers.Tie as tie
@@ -32,14 +33,16 @@ loop-holds c =
 returns : tie.Need-returns Inv-loop μ-loop
 returns c =
     let l = c .before .before .before .before .before .loop in
-    subst (λ (k : ℕ). numbers (inRange (c .before .before .before .before .before .before .before .before .before .args .which) (c .before .before .before .before .before .before .before .before .before .args .g) (c .before .before .before .before .before .before .before .before .before .args .p)) (c .before .before .before .before .before .before .before .before .before .args .text .now) k [] (c .before .before .before .before .before .before .before .before .before .args .from .at) ≡ refused 10 (c .before .line .given .0 .0)) (l .inv .0)
-    (turn-bad (l .inv .1) (c .before .before .before .before .loop-test .taken) (sym (c .before .line .given .1) ∙ c .before .before .before .next-number .ensures))
+    part-by
+    (subst (λ (k : ℕ). numbers (inRange (c .before .before .before .before .before .before .before .before .before .args .which) (c .before .before .before .before .before .before .before .before .before .args .g) (c .before .before .before .before .before .before .before .before .before .args .p)) (c .before .before .before .before .before .before .before .before .before .args .text .now) k [] (c .before .before .before .before .before .before .before .before .before .args .from .at) ≡ refused 10 (c .before .line .given .0 .0)) (l .inv .0)
+    (turn-bad (l .inv .1) (c .before .before .before .before .loop-test .taken) (sym (c .before .line .given .1) ∙ c .before .before .before .next-number .ensures)))
 
 returns-2 : tie.Need-returns-2 Inv-loop μ-loop
 returns-2 c =
     let l = c .before .before .before .before .before .before .before .before .loop in
-    subst (λ (k : ℕ). numbers (inRange (c .before .before .before .before .before .before .before .before .before .before .before .before .args .which) (c .before .before .before .before .before .before .before .before .before .before .before .before .args .g) (c .before .before .before .before .before .before .before .before .before .before .before .before .args .p)) (c .before .before .before .before .before .before .before .before .before .before .before .before .args .text .now) k [] (c .before .before .before .before .before .before .before .before .before .before .before .before .args .from .at) ≡ refused 11 (c .before .before .before .before .v .given .0 .1 .0 .line)) (l .inv .0)
-    (turn-out (l .inv .1) (c .before .before .before .before .before .before .before .loop-test .taken) (sym (c .before .before .before .before .v .given .1) ∙ c .before .before .before .before .before .before .next-number .ensures) (sym (c .before .in-range .ensures) ∙ not-true _ (c .if1 .taken)))
+    part-by
+    (subst (λ (k : ℕ). numbers (inRange (c .before .before .before .before .before .before .before .before .before .before .before .before .args .which) (c .before .before .before .before .before .before .before .before .before .before .before .before .args .g) (c .before .before .before .before .before .before .before .before .before .before .before .before .args .p)) (c .before .before .before .before .before .before .before .before .before .before .before .before .args .text .now) k [] (c .before .before .before .before .before .before .before .before .before .before .before .before .args .from .at) ≡ refused 11 (c .before .before .before .before .v .given .0 .1 .0 .line)) (l .inv .0)
+    (turn-out (l .inv .1) (c .before .before .before .before .before .before .before .loop-test .taken) (sym (c .before .before .before .before .v .given .1) ∙ c .before .before .before .before .before .before .next-number .ensures) (sym (c .before .in-range .ensures) ∙ not-true _ (c .if1 .taken))))
 
 loop-again : tie.Need-loop-again Inv-loop μ-loop
 loop-again c =
@@ -50,7 +53,8 @@ returns-3 : tie.Need-returns-3 Inv-loop μ-loop
 returns-3 c =
     let a = c .before .before .before .before .before .args in
     let l = c .before .loop in
-    subst (λ (k : ℕ). Front (numbers (inRange (a .which) (a .g) (a .p)) (a .text .now) k [] (a .from .at)) (a .text .now) (a .buffer .now) (l .buffer) k (l .c)) (l .inv .0) (turn-end (l .inv .1) (c .loop-test .left))
+    part-by
+    (subst (λ (k : ℕ). Front (numbers (inRange (a .which) (a .g) (a .p)) (a .text .now) k [] (a .from .at)) (a .text .now) (a .buffer .now) (l .buffer) k (l .c)) (l .inv .0) (turn-end (l .inv .1) (c .loop-test .left)))
 
 pub read-numbers-spec : {M : Type 1} → statement M
 read-numbers-spec =

@@ -8,6 +8,7 @@ use borrow.Author.Tests.{not-true, not-false}
 use Rattle.cursor.proofs.Runs.{next-stands}
 use Rattle.puzzle.specs.Sections.{Got, width, countRange}
 use Rattle.puzzle.specs.Parts.{PartIs}
+use Rattle.puzzle.proofs.Cases.{part-by}
 use Rattle.puzzle.proofs.Numbers.{due-bad, due-out, due-in, section-refused, section-counted, count-fits}
 use Rattle.puzzle.proofs.read_section.Statement.{statement}
 use Rattle.puzzle.proofs.read_section.Tie as tie
@@ -15,8 +16,9 @@ use Rattle.puzzle.proofs.read_section.Tie as tie
 returns : tie.Need-returns
 returns c =
     let a = c .before .before .before .before .before .before .before .before .args in
-    section-refused (a .which) (a .g) (a .p) (a .text .now) (a .from .at)
-    (due-out (countRange (a .which) (a .g)) (a .text .now) (a .from .at) (sym (c .before .before .before .count .given .1) ∙ c .before .before .before .before .before .next-number .ensures) (sym (c .before .in-count-range .ensures) ∙ not-true _ (c .if1 .taken)))
+    part-by
+    (section-refused (a .which) (a .g) (a .p) (a .text .now) (a .from .at)
+    (due-out (countRange (a .which) (a .g)) (a .text .now) (a .from .at) (sym (c .before .before .before .count .given .1) ∙ c .before .before .before .before .before .next-number .ensures) (sym (c .before .in-count-range .ensures) ∙ not-true _ (c .if1 .taken))))
 
 read-numbers-requires : tie.Need-read-numbers-requires
 read-numbers-requires c κs =
@@ -30,8 +32,9 @@ read-numbers-requires c κs =
 returns-2 : tie.Need-returns-2
 returns-2 c =
     let a = c .before .before .before .before .before .before .args in
-    section-refused (a .which) (a .g) (a .p) (a .text .now) (a .from .at)
-    (due-bad (countRange (a .which) (a .g)) (a .text .now) (a .from .at) (sym (c .before .line .given .1) ∙ c .before .before .before .next-number .ensures))
+    part-by
+    (section-refused (a .which) (a .g) (a .p) (a .text .now) (a .from .at)
+    (due-bad (countRange (a .which) (a .g)) (a .text .now) (a .from .at) (sym (c .before .line .given .1) ∙ c .before .before .before .next-number .ensures)))
 
 returns-3 : tie.Need-returns-3
 returns-3 c =
