@@ -2,3 +2,4 @@ pub mod Has
 pub mod Cases
 pub mod Numbers
 pub mod Chain
+pub mod Ranged
