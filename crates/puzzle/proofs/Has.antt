@@ -12,7 +12,7 @@ use borrow.Author.Tests.{eq-eqb, ne-eqb}
 use Rattle.puzzle.specs.Sections.{has}
 
 module _ (l : List ℕ) (n i v : ℕ) (h : n ≤ length l) where
-  left : i < n → drop i (take n l) ≡ getD l i 0 ∷ drop (i + 1) (take n l)
+  pub left : i < n → drop i (take n l) ≡ getD l i 0 ∷ drop (i + 1) (take n l)
   left k =
       let m = length-take-le n l h in
       drop-cons (take n l) i 0 (omega arith) ∙ ap₂ (λ (x j : ℕ). x ∷ drop j (take n l)) (getD-take n l i 0 k) (sym (add-one i))

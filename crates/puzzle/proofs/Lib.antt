@@ -3,3 +3,4 @@ pub mod Cases
 pub mod Numbers
 pub mod Chain
 pub mod Ranged
+pub mod Fills

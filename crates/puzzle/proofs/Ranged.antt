@@ -63,9 +63,9 @@ within-more fits before n v l t w =
       long = omega (arith, w .long);
       starts = here;
       each = λ i h g. ⊎-elim
-      (λ (e : length before ≡ i). subst (λ (j : ℕ). fits (take j l) (getD l j 0) ≡ true) e (ap₂ fits here at ∙ t))
-      (λ (m : length before < i). w .each i (omega arith) g)
-      (eq-or-lt-of-le h);
+          (λ (e : length before ≡ i). subst (λ (j : ℕ). fits (take j l) (getD l j 0) ≡ true) e (ap₂ fits here at ∙ t))
+          (λ (m : length before < i). w .each i (omega arith) g)
+          (eq-or-lt-of-le h);
     }
 
 within : (fits : List ℕ → ℕ → Bool) (text : List ℕ) (n : ℕ) (before : List ℕ) (at : ℕ) {l : List ℕ} {to : ℕ} → numbers fits text n before at ≡ got l to

@@ -16,6 +16,9 @@ pub record Buffers : Type 0 where
   pub events : List ℕ
   pub questions : List ℕ
 
+abbrev pub buffers : List ℕ → List ℕ → List ℕ → List ℕ → List ℕ → Buffers
+buffers map cr3s words events questions = record { map = map; cr3s = cr3s; words = words; events = events; questions = questions }
+
 pub record After : Type 0 where
   pub result : ReadResult
   pub buffers : Buffers
@@ -47,9 +50,17 @@ filled z b = record {
 abbrev pub countsOf : Puzzle → ReadResult
 countsOf z = Accepted (length (z .map)) (length (z .cr3s)) (length (z .pairs) / 2) (length (z .events) / 4) (length (z .questions) / 3)
 
+abbrev pub verdictOf : Got Puzzle → ReadResult
+verdictOf (got z at) = countsOf z
+verdictOf (refused number line) = Refused number line
+
+-- "A refusal … changes nothing."
+abbrev pub changed : Got Puzzle → Buffers → Buffers
+changed (got z at) b = filled z b
+changed (refused number line) b = b
+
 abbrev pub answer : Got Puzzle → Buffers → After
-answer (got z at) b = record { result = countsOf z; buffers = filled z b }
-answer (refused number line) b = record { result = Refused number line; buffers = b }
+answer m b = record { result = verdictOf m; buffers = changed m b }
 
 -- "a length … outside Sizes"; "1 (over-long, line 0) first": the programs take 65,536 bytes of text
 abbrev pub sized : List ℕ → Buffers → Bool
@@ -57,6 +68,5 @@ sized text b =
     leb (length text) 65536 && eqb (length (b .map)) 16 && eqb (length (b .cr3s)) 4 && eqb (length (b .words)) 8192
     && eqb (length (b .events)) 1024 && eqb (length (b .questions)) 48
 
--- "A refusal returns its number … and changes nothing."
 unfoldable pub readCall : List ℕ → Buffers → After
 readCall text b = cond (sized text b) (answer (puzzleOf text) b) (record { result = Refused 1 0; buffers = b })

@@ -2,9 +2,9 @@
 use mathlib.Core.Path.{_≡_}
 use mathlib.Core.Bool.{cond}
 use mathlib.Core.List.{List}
-use Prim.Native.Nat.{ℕ, _*_, _≤_}
+use Prim.Native.Nat.{ℕ, _*_, _≤_, _<_}
 use lib.Dec.{eqb}
-use lib.ListN.{length, take, drop}
+use lib.ListN.{length, take, drop, getD}
 use Rattle.cursor.specs.declared.Cursor.{Cursor}
 use Rattle.cursor.specs.Text.{Stands, lineAt, pastBlanks}
 use Rattle.puzzle.specs.declared.Section.{Section}
@@ -70,3 +70,7 @@ pub record Whole (text : List ℕ) (old new : Puzzle) (g p w e q : ℕ) : Type 0
 pub record SectionsAre (text : List ℕ) (old new : Puzzle) (r : ReadResult) : Type 0 where
   pub read : {g p w e q : ℕ} → r ≡ result.Accepted g p w e q → Whole text old new g p w e q
   pub fault : {number line : ℕ} → r ≡ result.Refused number line → puzzleOf text ≡ refused number line
+
+-- each word of word and value pairs is below n
+abbrev pub WordsBelow : ℕ → List ℕ → Type 0
+WordsBelow n pairs = (i : ℕ) → i * 2 < length pairs → getD pairs (i * 2) 0 < n

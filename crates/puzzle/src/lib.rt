@@ -5,10 +5,11 @@ ghost use mathlib.Core.Path.{_≡_};
 ghost use mathlib.Core.Bool.{not};
 ghost use mathlib.Core.List.{[]};
 ghost use Prim.Native.Nat.{_*_, _≤_};
-ghost use lib.ListN.{length, take};
+ghost use lib.ListN.{length, take, replicate};
 ghost use Rattle.cursor.specs.Text.{Stands};
-ghost use Rattle.puzzle.specs.Sections.{has, mapRange, wordRange, aRange, bRange, eventRange, questionRange, width, countRange, inRange, numbers, section};
-ghost use Rattle.puzzle.specs.Parts.{capacity, lists, Sized, PartIs, EndIs, SectionsAre};
+ghost use Rattle.puzzle.specs.Sections.{has, mapRange, wordRange, aRange, bRange, eventRange, questionRange, width, countRange, inRange, numbers, section, puzzleOf};
+ghost use Rattle.puzzle.specs.Buffers.{stored, laid, verdictOf};
+ghost use Rattle.puzzle.specs.Parts.{WordsBelow, capacity, lists, Sized, PartIs, EndIs, SectionsAre};
 
 // The sections of a puzzle text, in their order.
 pub enum Section {
@@ -293,4 +294,42 @@ fn read_sections(
             },
         },
     }
+}
+
+fn clear(words: &mut [u64], n: usize)
+    requires { ⌜ n ≤ length (now words) ⌝ }
+    ensures { λ _. ⌜ now (words .exit) ≡ laid (replicate n 0) (now (words .entry)) ⌝ }
+{
+    for i in 0..n {
+        words[i] = 0;
+    }
+}
+
+fn store_pairs(words: &mut [u64], pairs: &[u64], n: usize)
+    requires { ⌜ (n * 2 ≤ length (now pairs)) × WordsBelow (length (now words)) (take (n * 2) (now pairs)) ⌝ }
+    ensures { λ _. ⌜ now (words .exit) ≡ stored (take (n * 2) (now (pairs .entry))) (now (words .entry)) ⌝ }
+{
+    for i in 0..n {
+        let word = pairs[i * 2] as usize;
+        words[word] = pairs[i * 2 + 1];
+    }
+}
+
+// What the text says, before any buffer is touched: its sections are read into arrays of this function's own.
+fn verdict(text: &[u8]) -> ReadResult
+    ensures { λ r. ⌜ r ≡ verdictOf (puzzleOf (now (text .entry))) ⌝ }
+{
+    let mut map = [0u64; 16];
+    let mut cr3s = [0u64; 4];
+    let mut pairs = [0u64; 16384];
+    let mut events = [0u64; 1024];
+    let mut questions = [0u64; 48];
+    read_sections(
+        text,
+        &mut map,
+        &mut cr3s,
+        &mut pairs,
+        &mut events,
+        &mut questions,
+    )
 }
