@@ -95,7 +95,7 @@ quad n = omega arith
 triple : (n : ℕ) → n * 3 / 3 ≡ n
 triple n = omega arith
 
-counts-are : {text : List ℕ} {old new : Puzzle} {g p w e q : ℕ} → Whole text old new g p w e q → Accepted g p w e q ≡ countsOf (fronts new g p (w * 2) (e * 4) (q * 3))
+pub counts-are : {text : List ℕ} {old new : Puzzle} {g p w e q : ℕ} → Whole text old new g p w e q → Accepted g p w e q ≡ countsOf (fronts new g p (w * 2) (e * 4) (q * 3))
 counts-are {new = new} {g = g} {p = p} {w = w} {e = e} {q = q} k =
     let a : length (take g (new .map)) ≡ g = length-take-le g (new .map) (k .map .fits) in
     let b : length (take p (new .cr3s)) ≡ p = length-take-le p (new .cr3s) (k .cr3s .fits) in

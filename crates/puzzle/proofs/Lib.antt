@@ -4,3 +4,4 @@ pub mod Numbers
 pub mod Chain
 pub mod Ranged
 pub mod Fills
+pub mod Calls

@@ -23,6 +23,9 @@ pub record After : Type 0 where
   pub result : ReadResult
   pub buffers : Buffers
 
+abbrev pub after : ReadResult → Buffers → After
+after r b = record { result = r; buffers = b }
+
 -- word, value, word, value ..: each word becomes its value
 unfoldable pub stored : List ℕ → List ℕ → List ℕ
 stored (word ∷ value ∷ pairs) words = stored pairs (set words word value)
@@ -60,7 +63,7 @@ changed (got z at) b = filled z b
 changed (refused number line) b = b
 
 abbrev pub answer : Got Puzzle → Buffers → After
-answer m b = record { result = verdictOf m; buffers = changed m b }
+answer m b = after (verdictOf m) (changed m b)
 
 -- "a length … outside Sizes"; "1 (over-long, line 0) first": the programs take 65,536 bytes of text
 abbrev pub sized : List ℕ → Buffers → Bool
@@ -69,4 +72,4 @@ sized text b =
     && eqb (length (b .events)) 1024 && eqb (length (b .questions)) 48
 
 unfoldable pub readCall : List ℕ → Buffers → After
-readCall text b = cond (sized text b) (answer (puzzleOf text) b) (record { result = Refused 1 0; buffers = b })
+readCall text b = cond (sized text b) (answer (puzzleOf text) b) (after (Refused 1 0) b)

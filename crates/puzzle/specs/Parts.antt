@@ -1,6 +1,6 @@
 -- What the functions below `read` promise: a section is read into the front of a buffer.
 use mathlib.Core.Path.{_≡_}
-use mathlib.Core.Bool.{cond}
+use mathlib.Core.Bool.{Bool, true, false, cond}
 use mathlib.Core.List.{List}
 use Prim.Native.Nat.{ℕ, _*_, _≤_, _<_}
 use lib.Dec.{eqb}
@@ -13,6 +13,7 @@ use Rattle.puzzle.specs.declared.Part.{Part}
 use Rattle.puzzle.specs.declared.Part.the-variants.{Read, Refused}
 use Rattle.puzzle.specs.declared.ReadResult.{ReadResult}
 use Rattle.puzzle.specs.declared.ReadResult.the-variants as result
+use Rattle.puzzle.specs.Buffers.{Buffers}
 use Rattle.puzzle.specs.Sections.{Got, got, refused, Puzzle, puzzleOf}
 
 -- how many numbers a section has at most
@@ -74,3 +75,15 @@ pub record SectionsAre (text : List ℕ) (old new : Puzzle) (r : ReadResult) : T
 -- each word of word and value pairs is below n
 abbrev pub WordsBelow : ℕ → List ℕ → Type 0
 WordsBelow n pairs = (i : ℕ) → i * 2 < length pairs → getD pairs (i * 2) 0 < n
+
+-- the lent buffers have their lengths
+pub record Lengths (b : Buffers) : Type 0 where
+  pub map : length (b .map) ≡ 16
+  pub cr3s : length (b .cr3s) ≡ 4
+  pub words : length (b .words) ≡ 8192
+  pub events : length (b .events) ≡ 1024
+  pub questions : length (b .questions) ≡ 48
+
+abbrev pub accepts : Got Puzzle → Bool
+accepts (got z at) = true
+accepts (refused number line) = false

@@ -2,14 +2,14 @@
 use cursor::Cursor;
 use cursor::Next;
 ghost use mathlib.Core.Path.{_≡_};
-ghost use mathlib.Core.Bool.{not};
+ghost use mathlib.Core.Bool.{true, not};
 ghost use mathlib.Core.List.{[]};
 ghost use Prim.Native.Nat.{_*_, _≤_};
 ghost use lib.ListN.{length, take, replicate};
 ghost use Rattle.cursor.specs.Text.{Stands};
 ghost use Rattle.puzzle.specs.Sections.{has, mapRange, wordRange, aRange, bRange, eventRange, questionRange, width, countRange, inRange, numbers, section, puzzleOf};
-ghost use Rattle.puzzle.specs.Buffers.{stored, laid, verdictOf};
-ghost use Rattle.puzzle.specs.Parts.{WordsBelow, capacity, lists, Sized, PartIs, EndIs, SectionsAre};
+ghost use Rattle.puzzle.specs.Buffers.{buffers, after, stored, laid, verdictOf, answer, readCall};
+ghost use Rattle.puzzle.specs.Parts.{WordsBelow, Lengths, accepts, capacity, lists, Sized, PartIs, EndIs, SectionsAre};
 
 // The sections of a puzzle text, in their order.
 pub enum Section {
@@ -332,4 +332,75 @@ fn verdict(text: &[u8]) -> ReadResult
         &mut events,
         &mut questions,
     )
+}
+
+// An accepted text is read once more, now into the lent buffers.
+fn fill(
+    text: &[u8],
+    map: &mut [u64],
+    cr3s: &mut [u64],
+    words: &mut [u64],
+    events: &mut [u64],
+    questions: &mut [u64],
+) -> ReadResult
+    requires { ⌜ Lengths (buffers (now map) (now cr3s) (now words) (now events) (now questions)) × (accepts (puzzleOf (now text)) ≡ true) ⌝ }
+    ensures { λ r. ⌜ after r (buffers (now (map .exit)) (now (cr3s .exit)) (now (words .exit)) (now (events .exit)) (now (questions .exit))) ≡ answer (puzzleOf (now (text .entry))) (buffers (now (map .entry)) (now (cr3s .entry)) (now (words .entry)) (now (events .entry)) (now (questions .entry))) ⌝ }
+{
+    let mut pairs = [0u64; 16384];
+    let counts = read_sections(text, map, cr3s, &mut pairs, events, questions);
+    match counts {
+        ReadResult::Refused(number, line) => ReadResult::Refused(number, line),
+        ReadResult::Accepted {
+            frames,
+            processors: _,
+            words: n,
+            events: _,
+            questions: _,
+        } => {
+            clear(words, 512 * (frames as usize));
+            store_pairs(words, &pairs, n as usize);
+            counts
+        }
+    }
+}
+
+// The text is judged first; only then is anything written, so that a refusal changes nothing.
+pub fn read(
+    text: &[u8],
+    map: &mut [u64],
+    cr3s: &mut [u64],
+    words: &mut [u64],
+    events: &mut [u64],
+    questions: &mut [u64],
+) -> ReadResult
+    ensures { λ r. ⌜ after r (buffers (now (map .exit)) (now (cr3s .exit)) (now (words .exit)) (now (events .exit)) (now (questions .exit))) ≡ readCall (now (text .entry)) (buffers (now (map .entry)) (now (cr3s .entry)) (now (words .entry)) (now (events .entry)) (now (questions .entry))) ⌝ }
+{
+    if text.len() > 65536 {
+        return ReadResult::Refused(1, 0);
+    }
+    if map.len() != 16 {
+        return ReadResult::Refused(1, 0);
+    }
+    if cr3s.len() != 4 {
+        return ReadResult::Refused(1, 0);
+    }
+    if words.len() != 8192 {
+        return ReadResult::Refused(1, 0);
+    }
+    if events.len() != 1024 {
+        return ReadResult::Refused(1, 0);
+    }
+    if questions.len() != 48 {
+        return ReadResult::Refused(1, 0);
+    }
+    match verdict(text) {
+        ReadResult::Refused(number, line) => ReadResult::Refused(number, line),
+        ReadResult::Accepted {
+            frames: _,
+            processors: _,
+            words: _,
+            events: _,
+            questions: _,
+        } => fill(text, map, cr3s, words, events, questions),
+    }
 }
