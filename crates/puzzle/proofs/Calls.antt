@@ -8,13 +8,14 @@ use lib.Dec.{eqb, ltb}
 use lib.ListN.{length, take, drop, getD, replicate, length-replicate}
 use lib.Seq.{length-take-le}
 use borrow.Author.Tests.{eq-eqb, ltb-true}
-use Rattle.puzzle.specs.declared.Section.the-variants.{Words}
+use Rattle.sections.specs.declared.Section.the-variants.{Words}
 use Rattle.puzzle.specs.declared.ReadResult.{ReadResult}
 use Rattle.puzzle.specs.declared.ReadResult.the-variants.{Accepted, Refused}
-use Rattle.puzzle.specs.Sections.{Got, got, refused, Puzzle, puzzleOf, wordRange}
+use Rattle.sections.specs.Sections.{Got, got, refused, Puzzle, puzzleOf, wordRange}
 use Rattle.puzzle.specs.Buffers.{Buffers, buffers, After, after, stored, wordsOf, laid, countsOf, verdictOf, answer}
-use Rattle.puzzle.specs.Parts.{WordsBelow, fronts, Kept, Whole, accepts}
-use Rattle.puzzle.proofs.Ranged.{Ranged, InRange, accepted}
+use Rattle.puzzle.specs.Parts.{WordsBelow, fronts, Whole, accepts}
+use Rattle.sections.proofs.Ranged.{Ranged}
+use Rattle.puzzle.proofs.Accepted.{InRange, accepted}
 use Rattle.puzzle.proofs.Fills.{kept-laid, stored-laid, counts-are}
 
 -- a refused text

@@ -9,11 +9,12 @@ use lib.ListN.{length, take}
 use lib.Seq.{length-take-le}
 use borrow.Author.Tests.{eq-eqb, ne-eqb, eqb-true, eqb-false}
 use Rattle.cursor.specs.Text.{lineAt, pastBlanks}
-use Rattle.puzzle.specs.declared.Section.the-variants.{Map, Cr3s, Words, Events, Questions}
+use Rattle.sections.specs.declared.Section.the-variants.{Map, Cr3s, Words, Events, Questions}
 use Rattle.puzzle.specs.declared.ReadResult.{ReadResult}
 use Rattle.puzzle.specs.declared.ReadResult.the-variants.{Accepted, Refused}
-use Rattle.puzzle.specs.Sections.{Got, got, refused, _then_, section, Puzzle, ended, puzzleOf}
-use Rattle.puzzle.specs.Parts.{lists, fronts, Kept, EndIs, SectionsAre}
+use Rattle.sections.specs.Sections.{Got, got, refused, _then_, section, Puzzle, ended, puzzleOf}
+use Rattle.sections.specs.Parts.{Kept}
+use Rattle.puzzle.specs.Parts.{lists, fronts, EndIs, SectionsAre}
 use Rattle.puzzle.proofs.Cases.{sections-by}
 
 module _ (text : List ℕ) where

@@ -8,10 +8,11 @@ use lib.ListN.{length, take, drop, getD, set, replicate, length-set, length-repl
 use lib.Seq.{take-suc-set, length-take-le, set-append-left}
 use Rattle.puzzle.specs.declared.ReadResult.{ReadResult}
 use Rattle.puzzle.specs.declared.ReadResult.the-variants.{Accepted, Refused}
-use Rattle.puzzle.specs.Sections.{Puzzle, puzzleOf}
+use Rattle.sections.specs.Sections.{Puzzle, puzzleOf}
+use Rattle.sections.specs.Parts.{Kept}
 use Rattle.puzzle.specs.Buffers.{stored, laid, countsOf, verdictOf}
-use Rattle.puzzle.specs.Parts.{WordsBelow, fronts, Kept, Whole, SectionsAre}
-use Rattle.puzzle.proofs.Has.{left}
+use Rattle.puzzle.specs.Parts.{WordsBelow, fronts, Whole, SectionsAre}
+use Rattle.sections.proofs.Has.{left}
 
 -- ---- the front of a list
 

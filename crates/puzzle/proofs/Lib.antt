@@ -1,7 +1,5 @@
-pub mod Has
 pub mod Cases
-pub mod Numbers
 pub mod Chain
-pub mod Ranged
+pub mod Accepted
 pub mod Fills
 pub mod Calls

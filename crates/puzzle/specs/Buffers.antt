@@ -7,7 +7,7 @@ use lib.ListN.{length, drop, set, replicate}
 use Rattle.paging.specs.Layout.{frameWords}
 use Rattle.puzzle.specs.declared.ReadResult.{ReadResult}
 use Rattle.puzzle.specs.declared.ReadResult.the-variants.{Accepted, Refused}
-use Rattle.puzzle.specs.Sections.{Got, got, refused, Puzzle, puzzleOf}
+use Rattle.sections.specs.Sections.{Got, got, refused, Puzzle, puzzleOf}
 
 pub record Buffers : Type 0 where
   pub map : List ℕ

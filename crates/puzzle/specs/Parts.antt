@@ -1,47 +1,20 @@
--- What the functions below `read` promise: a section is read into the front of a buffer.
+-- What the functions below `read` promise.
 use mathlib.Core.Path.{_≡_}
 use mathlib.Core.Bool.{Bool, true, false, cond}
 use mathlib.Core.List.{List}
-use Prim.Native.Nat.{ℕ, _*_, _≤_, _<_}
+use Prim.Native.Nat.{ℕ, _*_, _<_}
 use lib.Dec.{eqb}
-use lib.ListN.{length, take, drop, getD}
-use Rattle.cursor.specs.declared.Cursor.{Cursor}
-use Rattle.cursor.specs.Text.{Stands, lineAt, pastBlanks}
-use Rattle.puzzle.specs.declared.Section.{Section}
-use Rattle.puzzle.specs.declared.Section.the-variants.{Map, Cr3s, Words, Events, Questions}
-use Rattle.puzzle.specs.declared.Part.{Part}
-use Rattle.puzzle.specs.declared.Part.the-variants.{Read, Refused}
+use lib.ListN.{length, take, getD}
+use Rattle.cursor.specs.Text.{lineAt, pastBlanks}
+use Rattle.sections.specs.Sections.{Got, got, refused, Puzzle, puzzleOf}
+use Rattle.sections.specs.Parts.{Kept}
 use Rattle.puzzle.specs.declared.ReadResult.{ReadResult}
-use Rattle.puzzle.specs.declared.ReadResult.the-variants as result
+use Rattle.puzzle.specs.declared.ReadResult.the-variants.{Accepted, Refused}
 use Rattle.puzzle.specs.Buffers.{Buffers}
-use Rattle.puzzle.specs.Sections.{Got, got, refused, Puzzle, puzzleOf}
-
--- how many numbers a section has at most
-abbrev pub capacity : Section → ℕ
-capacity Map = 16
-capacity Cr3s = 4
-capacity Words = 16384
-capacity Events = 1024
-capacity Questions = 48
-
--- a buffer holds n numbers in front and is as it was after them
-pub record Kept (old new : List ℕ) (n : ℕ) : Type 0 where
-  pub fits : n ≤ length new
-  pub stays : drop n new ≡ drop n old
-
--- a section's n numbers stand in front of a buffer, and c stands after them in the text
-pub record Front (m : Got (List ℕ)) (text old new : List ℕ) (n : ℕ) (c : Cursor) : Type 0 where
-  pub says : m ≡ got (take n new) (c .at)
-  pub kept : Kept old new n
-  pub stands : Stands text c
-
-pub record PartIs (m : Got (List ℕ)) (w : ℕ) (text old new : List ℕ) (r : Part) : Type 0 where
-  pub read : {count : ℕ} {c : Cursor} → r ≡ Read count c → Front m text old new (count * w) c
-  pub fault : {number line : ℕ} → r ≡ Refused number line → m ≡ refused number line
 
 -- the end of the text: counts, or the place of what is left over
 abbrev pub EndIs : List ℕ → ℕ → ReadResult → ReadResult → Type 0
-EndIs text at counts r = r ≡ cond (eqb (pastBlanks text at) (length text)) counts (result.Refused 10 (lineAt text (pastBlanks text at)))
+EndIs text at counts r = r ≡ cond (eqb (pastBlanks text at) (length text)) counts (Refused 10 (lineAt text (pastBlanks text at)))
 
 -- five lists
 abbrev pub lists : List ℕ → List ℕ → List ℕ → List ℕ → List ℕ → Puzzle
@@ -69,8 +42,8 @@ pub record Whole (text : List ℕ) (old new : Puzzle) (g p w e q : ℕ) : Type 0
   pub questions : Kept (old .questions) (new .questions) (q * 3)
 
 pub record SectionsAre (text : List ℕ) (old new : Puzzle) (r : ReadResult) : Type 0 where
-  pub read : {g p w e q : ℕ} → r ≡ result.Accepted g p w e q → Whole text old new g p w e q
-  pub fault : {number line : ℕ} → r ≡ result.Refused number line → puzzleOf text ≡ refused number line
+  pub read : {g p w e q : ℕ} → r ≡ Accepted g p w e q → Whole text old new g p w e q
+  pub fault : {number line : ℕ} → r ≡ Refused number line → puzzleOf text ≡ refused number line
 
 -- each word of word and value pairs is below n
 abbrev pub WordsBelow : ℕ → List ℕ → Type 0

@@ -5,7 +5,7 @@ use Prim.Native.Nat.{ℕ}
 use lib.ListN.{length}
 use borrow.Author.Needs.{needs}
 use borrow.Author.Tests.{eq-eqb, ne-eqb, le-leb, lt-leb}
-use Rattle.puzzle.specs.Sections.{puzzleOf}
+use Rattle.sections.specs.Sections.{puzzleOf}
 use Rattle.puzzle.specs.Buffers.{Buffers, buffers, sized, answer, readCall}
 use Rattle.puzzle.proofs.Calls.{refused-answer, accepts-by}
 use Rattle.puzzle.proofs.read.Statement.{statement}

@@ -1,9 +1,9 @@
 -- Each return is one test of the range.
 use borrow.Author.Needs.{needs}
 use borrow.Author.Tests.{lt-ltb, le-ltb}
-use Rattle.puzzle.specs.Sections.{mapRange}
-use Rattle.puzzle.proofs.in_map_range.Statement.{statement}
-use Rattle.puzzle.proofs.in_map_range.Tie as tie
+use Rattle.sections.specs.Sections.{mapRange}
+use Rattle.sections.proofs.in_map_range.Statement.{statement}
+use Rattle.sections.proofs.in_map_range.Tie as tie
 
 returns : tie.Need-returns
 unfolding mapRange

@@ -6,12 +6,12 @@ use native.Mathlib.Omega.{arith}
 use borrow.Author.Needs.{needs}
 use borrow.Author.Tests.{not-true, not-false}
 use Rattle.cursor.proofs.Runs.{next-stands}
-use Rattle.puzzle.specs.Sections.{Got, width, countRange}
-use Rattle.puzzle.specs.Parts.{PartIs}
-use Rattle.puzzle.proofs.Cases.{part-by}
-use Rattle.puzzle.proofs.Numbers.{due-bad, due-out, due-in, section-refused, section-counted, count-fits}
-use Rattle.puzzle.proofs.read_section.Statement.{statement}
-use Rattle.puzzle.proofs.read_section.Tie as tie
+use Rattle.sections.specs.Sections.{Got, width, countRange}
+use Rattle.sections.specs.Parts.{PartIs}
+use Rattle.sections.proofs.Cases.{part-by}
+use Rattle.sections.proofs.Numbers.{due-bad, due-out, due-in, section-refused, section-counted, count-fits}
+use Rattle.sections.proofs.read.Statement.{statement}
+use Rattle.sections.proofs.read.Tie as tie
 
 returns : tie.Need-returns
 returns c =
@@ -44,8 +44,8 @@ returns-3 c =
     (due-in (countRange (a .which) (a .g)) (a .text .now) (a .from .at) (sym (c .before .before .before .before .before .before .before .count .given .1) ∙ c .before .before .before .before .before .before .before .before .before .next-number .ensures) (sym (c .before .before .before .before .before .in-count-range .ensures) ∙ not-false _ (c .before .before .before .before .if1 .left)))))
     (c .before .before .read-numbers .ensures)
 
-pub read-section-spec : {M : Type 1} → statement M
-read-section-spec =
+pub read-spec : {M : Type 1} → statement M
+read-spec =
     tie.close
     (tie.spec
     (λ c κs. search needs)

@@ -6,9 +6,9 @@ use lib.ListN.{length, take, getD}
 use lib.Seq.{length-take-le, getD-take}
 use borrow.Author.Needs.{needs}
 use borrow.Author.Tests.{eq-eqb, ne-eqb, lt-ltb, le-ltb}
-use Rattle.puzzle.specs.Sections.{wordRange}
-use Rattle.puzzle.proofs.in_word_range.Statement.{statement}
-use Rattle.puzzle.proofs.in_word_range.Tie as tie
+use Rattle.sections.specs.Sections.{wordRange}
+use Rattle.sections.proofs.in_word_range.Statement.{statement}
+use Rattle.sections.proofs.in_word_range.Tie as tie
 
 returns : tie.Need-returns
 unfolding wordRange

@@ -1,8 +1,8 @@
 -- Each return is one kind's range.
 use borrow.Author.Tests.{eq-eqb, ne-eqb}
-use Rattle.puzzle.specs.Sections.{bRange}
-use Rattle.puzzle.proofs.in_b_range.Statement.{statement}
-use Rattle.puzzle.proofs.in_b_range.Tie as tie
+use Rattle.sections.specs.Sections.{bRange}
+use Rattle.sections.proofs.in_b_range.Statement.{statement}
+use Rattle.sections.proofs.in_b_range.Tie as tie
 
 returns : tie.Need-returns
 unfolding bRange

@@ -4,10 +4,10 @@ use mathlib.Core.Bool.{not}
 use Prim.Native.Nat.{ℕ, _-_, _≤_}
 use native.Mathlib.Omega.{arith}
 use lib.ListN.{length, take, drop}
-use Rattle.puzzle.specs.Sections.{has}
-use Rattle.puzzle.proofs.Has.{has-here, has-next, has-end}
-use Rattle.puzzle.proofs.is_new.Statement.{statement}
-use Rattle.puzzle.proofs.is_new.Tie as tie
+use Rattle.sections.specs.Sections.{has}
+use Rattle.sections.proofs.Has.{has-here, has-next, has-end}
+use Rattle.sections.proofs.is_new.Statement.{statement}
+use Rattle.sections.proofs.is_new.Tie as tie
 
 abbrev Inv-loop : tie.InvT-loop
 Inv-loop before n v i₀ i = (i ≤ n) × (has v (drop i (take n before)) ≡ has v (take n before))

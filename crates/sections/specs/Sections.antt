@@ -8,8 +8,8 @@ use Rattle.cursor.specs.declared.Next.{Next}
 use Rattle.cursor.specs.declared.Next.the-variants.{Number, Bad}
 use Rattle.cursor.specs.Text.{lineAt, pastBlanks, nextAt}
 use Rattle.paging.specs.Layout.{tables64, frameWords}
-use Rattle.puzzle.specs.declared.Section.{Section}
-use Rattle.puzzle.specs.declared.Section.the-variants.{Map, Cr3s, Words, Events, Questions}
+use Rattle.sections.specs.declared.Section.{Section}
+use Rattle.sections.specs.declared.Section.the-variants.{Map, Cr3s, Words, Events, Questions}
 
 -- a part of the text: what it gives and the place after it, or a refusal number and its line
 pub data Got (A : Type 0) : Type 0 where

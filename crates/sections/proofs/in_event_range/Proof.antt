@@ -6,9 +6,9 @@ use lib.ListN.{length, take, getD}
 use lib.Seq.{length-take-le, getD-take}
 use borrow.Author.Needs.{needs}
 use borrow.Author.Tests.{eq-eqb, ne-eqb, le-leb, lt-leb}
-use Rattle.puzzle.specs.Sections.{eventRange}
-use Rattle.puzzle.proofs.in_event_range.Statement.{statement}
-use Rattle.puzzle.proofs.in_event_range.Tie as tie
+use Rattle.sections.specs.Sections.{eventRange}
+use Rattle.sections.proofs.in_event_range.Statement.{statement}
+use Rattle.sections.proofs.in_event_range.Tie as tie
 
 returns : tie.Need-returns
 unfolding eventRange

@@ -3,11 +3,11 @@ use mathlib.Core.Path.{sym, ap, _∙_}
 use Prim.Native.Nat.{ℕ}
 use lib.ListN.{take}
 use lib.Seq.{length-take-le}
-use Rattle.puzzle.specs.declared.Section.{Section}
-use Rattle.puzzle.specs.Sections.{questionRange, inRange}
+use Rattle.sections.specs.declared.Section.{Section}
+use Rattle.sections.specs.Sections.{questionRange, inRange}
 use borrow.Author.Needs.{needs}
-use Rattle.puzzle.proofs.in_range.Statement.{statement}
-use Rattle.puzzle.proofs.in_range.Tie as tie
+use Rattle.sections.proofs.in_range.Statement.{statement}
+use Rattle.sections.proofs.in_range.Tie as tie
 
 returns : tie.Need-returns
 returns c = let a = c .before .before .before .before .args in c .in-map-range .ensures ∙ ap (λ (k : Section). inRange k (a .g) (a .p) (take (a .i) (a .before .now)) (a .v)) (sym (c .before .enum-told .given .1))

@@ -1,11 +1,11 @@
 -- The range of the section's count.
 use mathlib.Core.Path.{sym, ap, _∙_}
 use borrow.Author.Tests.{le-leb, lt-leb}
-use Rattle.puzzle.specs.declared.Section.{Section}
-use Rattle.puzzle.specs.Sections.{countRange}
+use Rattle.sections.specs.declared.Section.{Section}
+use Rattle.sections.specs.Sections.{countRange}
 use borrow.Author.Needs.{needs}
-use Rattle.puzzle.proofs.in_count_range.Statement.{statement}
-use Rattle.puzzle.proofs.in_count_range.Tie as tie
+use Rattle.sections.proofs.in_count_range.Statement.{statement}
+use Rattle.sections.proofs.in_count_range.Tie as tie
 
 returns : tie.Need-returns
 returns c = let a = c .before .before .before .args in sym (ap (λ (k : Section). countRange k (a .g) (a .n)) (c .before .enum-told .given .1) ∙ simp (le-leb _ _ (c .if1 .taken)))

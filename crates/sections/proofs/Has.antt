@@ -9,7 +9,7 @@ use lib.Dec.{eqb}
 use lib.ListN.{length, take, drop, getD, drop-of-length-le}
 use lib.Seq.{drop-cons, getD-take, length-take-le}
 use borrow.Author.Tests.{eq-eqb, ne-eqb}
-use Rattle.puzzle.specs.Sections.{has}
+use Rattle.sections.specs.Sections.{has}
 
 module _ (l : List ℕ) (n i v : ℕ) (h : n ≤ length l) where
   pub left : i < n → drop i (take n l) ≡ getD l i 0 ∷ drop (i + 1) (take n l)

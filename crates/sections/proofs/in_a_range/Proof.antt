@@ -2,9 +2,9 @@
 use mathlib.Core.Path.{sym, _∙_}
 use borrow.Author.Needs.{needs}
 use borrow.Author.Tests.{eq-eqb, ne-eqb}
-use Rattle.puzzle.specs.Sections.{aRange}
-use Rattle.puzzle.proofs.in_a_range.Statement.{statement}
-use Rattle.puzzle.proofs.in_a_range.Tie as tie
+use Rattle.sections.specs.Sections.{aRange}
+use Rattle.sections.proofs.in_a_range.Statement.{statement}
+use Rattle.sections.proofs.in_a_range.Tie as tie
 
 returns : tie.Need-returns
 unfolding aRange

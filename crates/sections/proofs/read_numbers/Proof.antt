@@ -7,12 +7,12 @@ use native.Mathlib.Omega.{arith}
 use lib.ListN.{length}
 use borrow.Author.Needs.{needs}
 use borrow.Author.Tests.{not-true, not-false}
-use Rattle.puzzle.specs.Sections.{width, inRange, numbers, refused}
-use Rattle.puzzle.specs.Parts.{Front}
-use Rattle.puzzle.proofs.Cases.{part-by}
-use Rattle.puzzle.proofs.Numbers.{Turned, turn-start, turn-bad, turn-out, turn-more, turn-end}
-use Rattle.puzzle.proofs.read_numbers.Statement.{statement}
-use Rattle.puzzle.proofs.read_numbers.Tie as tie
+use Rattle.sections.specs.Sections.{width, inRange, numbers, refused}
+use Rattle.sections.specs.Parts.{Front}
+use Rattle.sections.proofs.Cases.{part-by}
+use Rattle.sections.proofs.Numbers.{Turned, turn-start, turn-bad, turn-out, turn-more, turn-end}
+use Rattle.sections.proofs.read_numbers.Statement.{statement}
+use Rattle.sections.proofs.read_numbers.Tie as tie
 
 abbrev Inv-loop : tie.InvT-loop
 Inv-loop text section g p count buffer₀ n c₀ i₀ buffer c i =

@@ -1,0 +1,4 @@
+pub mod Has
+pub mod Cases
+pub mod Numbers
+pub mod Ranged
