@@ -3,3 +3,5 @@ pub mod Chain
 pub mod Accepted
 pub mod Fills
 pub mod Calls
+pub mod Fits
+pub mod Theorems

@@ -1,2 +1,3 @@
 pub mod Buffers
+pub mod Setup
 pub mod Parts
