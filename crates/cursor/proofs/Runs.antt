@@ -157,6 +157,22 @@ next-cases : (t : Bool) (w line : ℕ) {v : ℕ} {c d : Cursor} → Number v c �
 next-cases true w line q = cc
 next-cases false w line q = let z : _≡_ {A = ℕ} 0 1 = cc in absurd (omega arith)
 
+pub next-line : (s : List ℕ) (at : ℕ) {v : ℕ} {c : Cursor} → Number v c ≡ nextAt s at → c .line ≡ lineAt s (pastBlanks s at)
+next-line s at {v} {c} q =
+    let here = pastBlanks s at in
+    let e : c ≡ cursorAt s (here + length (run (drop here s))) =
+    next-cases (isNumber (run (drop here s))) (valueOf (run (drop here s))) (lineAt s here) q in
+    ap (λ (k : Cursor). k .line) e ∙ line-run s (drop here s) here refl
+
+bad-cases : (t : Bool) (v line : ℕ) (c : Cursor) {l : ℕ} → Bad l ≡ cond t (Number v c) (Bad line) → l ≡ line
+bad-cases true v line c q = let z : _≡_ {A = ℕ} 0 1 = cc in absurd (omega arith)
+bad-cases false v line c q = cc
+
+pub bad-line : (s : List ℕ) (at : ℕ) {line : ℕ} → Bad line ≡ nextAt s at → line ≡ lineAt s (pastBlanks s at)
+bad-line s at q =
+    let here = pastBlanks s at in
+    bad-cases (isNumber (run (drop here s))) (valueOf (run (drop here s))) (lineAt s here) (cursorAt s (here + length (run (drop here s)))) q
+
 pub next-stands : (s : List ℕ) (at : ℕ) {v : ℕ} {c : Cursor} → at ≤ length s → Number v c ≡ nextAt s at → Stands s c
 next-stands s at {v} {c} h q =
     let here = pastBlanks s at in

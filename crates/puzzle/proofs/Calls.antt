@@ -1,6 +1,6 @@
 -- What the calls say of the whole: the answer of a refused and of an accepted text.
 use mathlib.Core.Path.{_≡_, refl, sym, ap, ap₂, _∙_, subst, subst⁻¹}
-use mathlib.Core.Bool.{Bool, true, false, cond, _&&_, false≢true}
+use mathlib.Core.Bool.{Bool, true, false, false≢true}
 use mathlib.Core.List.{List}
 use Prim.Native.Nat.{ℕ, _+_, _*_, _%_, _/_, _≤_, _<_}
 use native.Mathlib.Omega.{arith}
@@ -14,6 +14,7 @@ use Rattle.puzzle.specs.declared.ReadResult.the-variants.{Accepted, Refu
 use Rattle.sections.specs.Sections.{Got, got, refused, Puzzle, puzzleOf, wordRange}
 use Rattle.puzzle.specs.Buffers.{Buffers, buffers, After, after, stored, wordsOf, laid, countsOf, verdictOf, answer}
 use Rattle.puzzle.specs.Parts.{WordsBelow, fronts, Whole, accepts}
+use Rattle.sections.proofs.Tests.{both-first}
 use Rattle.sections.proofs.Ranged.{Ranged}
 use Rattle.puzzle.proofs.Accepted.{InRange, accepted}
 use Rattle.puzzle.proofs.Fills.{kept-laid, stored-laid, counts-are}
@@ -31,10 +32,6 @@ pub not-refused : {m : Got Puzzle} {number line : ℕ} → accepts m ≡ true �
 not-refused a e = false≢true (sym (ap accepts e) ∙ a)
 
 -- the words of accepted pairs
-both-first : (a b : Bool) → (a && b) ≡ true → a ≡ true
-both-first true b e = refl
-both-first false b e = e
-
 word-below : (G v i : ℕ) (l : List ℕ) → i * 2 ≤ length l → wordRange G (take (i * 2) l) v ≡ true → v < 512 * G
 unfolding wordRange
 word-below G v i l h e =

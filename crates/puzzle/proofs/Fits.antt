@@ -16,16 +16,9 @@ use Rattle.rules.specs.History.{Setup, eventRefusal}
 use Rattle.rules.specs.Outcome.{questionRefusal}
 use Rattle.sections.specs.declared.Section.the-variants.{Map, Cr3s, Events, Questions}
 use Rattle.sections.specs.Sections.{has, mapRange, aRange, bRange, eventRange, questionRange}
+use Rattle.sections.proofs.Tests.{both-first, both-second}
 use Rattle.sections.proofs.Ranged.{Ranged}
 use Rattle.puzzle.specs.Setup.{eventOf, questionOf}
-
-both-first : (a b : Bool) → (a && b) ≡ true → a ≡ true
-both-first true b e = refl
-both-first false b e = e
-
-both-second : (a b : Bool) → (a && b) ≡ true → b ≡ true
-both-second true b e = e
-both-second false b e = absurd (false≢true e)
 
 -- ---- map frames
 

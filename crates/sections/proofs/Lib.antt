@@ -1,3 +1,4 @@
+pub mod Tests
 pub mod Has
 pub mod Cases
 pub mod Numbers

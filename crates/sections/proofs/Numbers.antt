@@ -1,6 +1,6 @@
 -- One number further: what is left to read gives the same.
 use mathlib.Core.Path.{_≡_, refl, sym, ap, ap₂, _∙_}
-use mathlib.Core.Bool.{Bool, true, false, cond, _&&_, false≢true}
+use mathlib.Core.Bool.{Bool, true, false, cond}
 use mathlib.Core.List.{List, [], _∷_, _++_}
 use Prim.Native.Nat.{ℕ, zero, suc, _+_, _-_, _*_, _≤_, _<_}
 use native.Mathlib.Numerals.{add-one}
@@ -12,25 +12,30 @@ use lib.Seq.{take-suc-set, drop-set-lt}
 use Rattle.cursor.specs.declared.Cursor.{Cursor}
 use Rattle.cursor.specs.declared.Next.{Next}
 use Rattle.cursor.specs.declared.Next.the-variants.{Number, Bad}
-use Rattle.cursor.specs.Text.{Stands, nextAt}
-use Rattle.cursor.proofs.Runs.{next-stands}
+use Rattle.cursor.specs.Text.{Stands, lineAt, pastBlanks, nextAt}
+use Rattle.cursor.proofs.Runs.{next-stands, next-line, bad-line}
 use Rattle.sections.specs.declared.Section.{Section}
 use Rattle.sections.specs.declared.Section.the-variants.{Map, Cr3s, Words, Events, Questions}
 use Rattle.sections.specs.Sections.{Got, got, refused, _then_, judged, due, numbers, width, countRange, inRange, section}
 use Rattle.sections.specs.Parts.{capacity, Front}
+use Rattle.sections.proofs.Tests.{both-second}
 
 module _ (fits : ℕ → Bool) (text : List ℕ) (at : ℕ) where
   pub due-bad : {line : ℕ} → Bad line ≡ nextAt text at → due fits text at ≡ refused 10 line
   unfolding due
-  due-bad e = sym (ap (judged fits) e)
+  due-bad e = sym (ap (judged fits (lineAt text (pastBlanks text at))) e) ∙ ap (refused 10) (sym (bad-line text at e))
 
   pub due-out : {v : ℕ} {c : Cursor} → Number v c ≡ nextAt text at → fits v ≡ false → due fits text at ≡ refused 11 (c .line)
   unfolding due
-  due-out {v} {c} e t = sym (ap (judged fits) e) ∙ ap (λ (b : Bool). cond b (got v (c .at)) (refused 11 (c .line))) t
+  due-out {v} {c} e t =
+      sym (ap (judged fits (lineAt text (pastBlanks text at))) e)
+      ∙ ap₂ (λ (b : Bool) (line : ℕ). cond b (got v (c .at)) (refused 11 line)) t (sym (next-line text at e))
 
   pub due-in : {v : ℕ} {c : Cursor} → Number v c ≡ nextAt text at → fits v ≡ true → due fits text at ≡ got v (c .at)
   unfolding due
-  due-in {v} {c} e t = sym (ap (judged fits) e) ∙ ap (λ (b : Bool). cond b (got v (c .at)) (refused 11 (c .line))) t
+  due-in {v} {c} e t =
+      sym (ap (judged fits (lineAt text (pastBlanks text at))) e)
+      ∙ ap (λ (b : Bool). cond b (got v (c .at)) (refused 11 (lineAt text (pastBlanks text at)))) t
 
 module _ (fits : List ℕ → ℕ → Bool) (text : List ℕ) (at m : ℕ) (before : List ℕ) where
   abbrev rest : ℕ → ℕ → Got (List ℕ)
@@ -115,10 +120,6 @@ module _ (k : Section) (G P : ℕ) (text : List ℕ) (at : ℕ) where
   pub section-counted : {n to : ℕ} → due (countRange k G) text at ≡ got n to → section k G P text at ≡ numbers (inRange k G P) text (n * width k) [] to
   unfolding section
   section-counted e = ap (λ (r : Got ℕ). r then listed) e
-
-both-second : (a b : Bool) → (a && b) ≡ true → b ≡ true
-both-second true b e = e
-both-second false b e = absurd (false≢true e)
 
 -- a count in range has room in its buffer
 pub count-fits : (k : Section) (G n : ℕ) → G ≤ 16 → countRange k G n ≡ true → n * width k ≤ capacity k

@@ -11,7 +11,7 @@ use lib.ListN.{length, take, getD, length-append}
 use lib.Seq.{take-length, take-append-seam, take-take, getD-take, getD-append-seam}
 use Rattle.cursor.specs.declared.Next.{Next}
 use Rattle.cursor.specs.declared.Next.the-variants.{Number, Bad}
-use Rattle.cursor.specs.Text.{nextAt}
+use Rattle.cursor.specs.Text.{lineAt, pastBlanks, nextAt}
 use Rattle.sections.specs.declared.Section.{Section}
 use Rattle.sections.specs.Sections.{Got, got, refused, _then_, judged, due, numbers, width, countRange, inRange, section}
 
@@ -32,13 +32,13 @@ judged-if fits w p line true {v} t e =
     ap fits (sym s) ∙ t
 judged-if fits w p line false t e = let z : _≡_ {A = ℕ} 0 1 = cc in absurd (omega arith)
 
-judged-fits : (fits : ℕ → Bool) (n : Next) {v p : ℕ} → judged fits n ≡ got v p → fits v ≡ true
-judged-fits fits (Number w c) e = judged-if fits w (c .at) (c .line) (fits w) refl e
-judged-fits fits (Bad line) e = let z : _≡_ {A = ℕ} 0 1 = cc in absurd (omega arith)
+judged-fits : (fits : ℕ → Bool) (line : ℕ) (n : Next) {v p : ℕ} → judged fits line n ≡ got v p → fits v ≡ true
+judged-fits fits line (Number w c) e = judged-if fits w (c .at) line (fits w) refl e
+judged-fits fits line (Bad _) e = let z : _≡_ {A = ℕ} 0 1 = cc in absurd (omega arith)
 
 due-fits : (fits : ℕ → Bool) (text : List ℕ) (at : ℕ) {v p : ℕ} → due fits text at ≡ got v p → fits v ≡ true
 unfolding due
-due-fits fits text at e = judged-fits fits (nextAt text at) e
+due-fits fits text at e = judged-fits fits (lineAt text (pastBlanks text at)) (nextAt text at) e
 
 -- n numbers after those before
 record Within (fits : List ℕ → ℕ → Bool) (before : List ℕ) (n : ℕ) (l : List ℕ) : Type 0 where

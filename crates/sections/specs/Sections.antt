@@ -22,13 +22,14 @@ _then_ (got a at) next = next a at
 _then_ (refused number line) next = refused number line
 
 infixr 10 _then_
--- a number is due: 10 if none can be read, 11 if it is out of range
-abbrev pub judged : (ℕ → Bool) → Next → Got ℕ
-judged fits (Bad line) = refused 10 line
-judged fits (Number v c) = cond (fits v) (got v (c .at)) (refused 11 (c .line))
+-- a number is due past the blanks: 10 if none can be read there, 11 if it is out of range
+-- "any other fault's is the first byte of the number, and 10 comes before 11 at one place"
+abbrev pub judged : (ℕ → Bool) → ℕ → Next → Got ℕ
+judged fits line (Bad _) = refused 10 line
+judged fits line (Number v c) = cond (fits v) (got v (c .at)) (refused 11 line)
 
 unfoldable pub due : (ℕ → Bool) → List ℕ → ℕ → Got ℕ
-due fits text at = judged fits (nextAt text at)
+due fits text at = judged fits (lineAt text (pastBlanks text at)) (nextAt text at)
 
 -- n numbers more; the range of each may hang on those before it
 unfoldable pub numbers : (List ℕ → ℕ → Bool) → List ℕ → ℕ → List ℕ → ℕ → Got (List ℕ)
