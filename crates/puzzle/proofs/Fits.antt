@@ -1,6 +1,6 @@
 -- Numbers in range are what the rules ask for: map frames, CR3s, events and questions.
 use mathlib.Core.Path.{_≡_, refl, sym, ap, ap₂, _∙_, subst}
-use mathlib.Core.Bool.{Bool, true, false, cond, not, _&&_, _||_, false≢true}
+use mathlib.Core.Bool.{Bool, true, false, cond, not, _&&_, _||_, or-false, false≢true}
 use mathlib.Core.List.{List, [], _∷_}
 use Prim.Native.Nat.{ℕ, zero, suc, _+_, _-_, _*_, _%_, _^_, _≤_, _<_}
 use native.Mathlib.Decide.{decLt}
@@ -8,7 +8,7 @@ use native.Mathlib.Omega.{arith}
 use lib.Dec.{eqb, ltb, leb}
 use lib.ListN.{length, take, getD}
 use lib.Seq.{length-take-le, getD-take}
-use borrow.Author.Tests.{eq-eqb, ne-eqb, lt-leb, le-ltb, ltb-true, leb-true, not-true}
+use borrow.Author.Tests.{eq-eqb, ne-eqb, lt-ltb, lt-leb, le-leb, le-ltb, ltb-true, ltb-false, leb-true, leb-false, not-true, not-false}
 use Rattle.paging.specs.Layout.{tables64}
 use Rattle.paging.proofs.Frames.{Distinct}
 use Rattle.rules.specs.Refusal.{refusal}
@@ -18,7 +18,7 @@ use Rattle.sections.specs.declared.Section.the-variants.{Map, Cr3s, Events, Que
 use Rattle.sections.specs.Sections.{has, mapRange, aRange, bRange, eventRange, questionRange}
 use Rattle.sections.proofs.Tests.{both-first, both-second}
 use Rattle.sections.proofs.Ranged.{Ranged}
-use Rattle.puzzle.specs.Setup.{eventOf, questionOf}
+use Rattle.puzzle.specs.Setup.{setup, eventOf, questionOf, InEvent}
 
 -- ---- map frames
 
@@ -57,11 +57,22 @@ cr3-below {G} {l} r i h = ltb-true (getD l i 0) G (r .each i h)
 
 -- ---- an event whose numbers are in range
 
+-- of tests that end in 0 none is met
+none-met : (t u w : Bool) (i j k : ℕ) → cond t (suc i) (cond u (suc j) (cond w (suc k) 0)) ≡ 0 → (t ≡ false) × (u ≡ false) × (w ≡ false)
+none-met true u w i j k e = absurd (omega arith)
+none-met false true w i j k e = absurd (omega arith)
+none-met false false true i j k e = absurd (omega arith)
+none-met false false false i j k e = (refl, refl, refl)
+
+one-met : (t : Bool) (i j : ℕ) → cond t (suc i) (suc j) ≡ 0 → ⊥
+one-met true i j e = omega arith
+one-met false i j e = omega arith
+
 module _ (G P : ℕ) (words cr3s : List ℕ) where
   abbrev U : Setup
-  U = record { tables = tables64; frames = G; processors = P; words = words; cr3s = cr3s }
+  U = setup G P words cr3s
 
-  event-in : (kind p a b : ℕ) → p < P → 1 ≤ kind → kind ≤ 7 → aRange G kind a ≡ true → bRange kind b ≡ true
+  pub event-in : (kind p a b : ℕ) → p < P → 1 ≤ kind → kind ≤ 7 → aRange G kind a ≡ true → bRange kind b ≡ true
       → eventRefusal U (record { proc = p; kind = kind; a = a; b = b }) ≡ 0
   unfolding eventRefusal refusal aRange bRange
   event-in zero p a b hp h k ha hb = absurd (omega arith)
@@ -73,6 +84,43 @@ module _ (G P : ℕ) (words cr3s : List ℕ) where
   event-in (suc (suc (suc (suc (suc (suc zero)))))) p a b hp h k ha hb = simp (lt-leb P p hp, le-ltb 7 a (leb-true a 7 ha), hb)
   event-in (suc (suc (suc (suc (suc (suc (suc zero))))))) p a b hp h k ha hb = simp (lt-leb P p hp, le-ltb 7 a (leb-true a 7 ha), hb)
   event-in (suc (suc (suc (suc (suc (suc (suc (suc n)))))))) p a b hp h k ha hb = absurd (omega arith)
+
+  in-event : {kind p a b : ℕ} → leb P p ≡ false → 1 ≤ kind → kind ≤ 7 → aRange G kind a ≡ true → bRange kind b ≡ true → InEvent G P kind p a b
+  in-event {p = p} t l h x y = record { processor = leb-false P p t; kinds = (l, h); first = x; second = y }
+
+  unknown-kind : (k p a b : ℕ) → 7 < k → eventRefusal U (record { proc = p; kind = k; a = a; b = b }) ≡ cond (leb P p) 4 11
+  unfolding eventRefusal refusal
+  unknown-kind k p a b h =
+      let differs : (n : ℕ) → n ≤ 7 → eqb k n ≡ false = λ n m. ne-eqb k n (λ (z : k ≡ n). omega arith) in
+      simp (differs 0 (omega arith), differs 1 (omega arith), differs 2 (omega arith), differs 3 (omega arith), differs 4 (omega arith), differs 5 (omega arith), differs 6 (omega arith), differs 7 (omega arith), lt-ltb 7 k h)
+
+  -- and the other way round: an event that the rules do not refuse is in range
+  pub event-out : (kind p a b : ℕ) → eventRefusal U (record { proc = p; kind = kind; a = a; b = b }) ≡ 0 → InEvent G P kind p a b
+  unfolding eventRefusal refusal aRange bRange
+  event-out zero p a b e = absurd (one-met (leb P p) 3 10 e)
+  event-out (suc zero) p a b e =
+      let f = none-met (leb P p) (leb (512 * G) a) false 3 7 0 e in
+      in-event (f .0) (omega arith) (omega arith) (lt-ltb a (512 * G) (leb-false (512 * G) a (f .1))) refl
+  event-out (suc (suc zero)) p a b e =
+      let f = none-met (leb P p) (not (tables64 .allowed a)) (not (eqb b 0)) 3 4 10 e in
+      in-event (f .0) (omega arith) (omega arith) (not-false _ (f .1)) (not-false _ (f .2))
+  event-out (suc (suc (suc zero))) p a b e =
+      let f = none-met (leb P p) (leb G a) (not (eqb b 0)) 3 6 10 e in
+      in-event (f .0) (omega arith) (omega arith) (lt-ltb a G (leb-false G a (f .1))) (not-false _ (f .2))
+  event-out (suc (suc (suc (suc zero)))) p a b e =
+      let f = none-met (leb P p) (not (tables64 .allowed a)) (ltb 5 b) 3 4 5 e in
+      in-event (f .0) (omega arith) (omega arith) (not-false _ (f .1)) (le-leb b 5 (ltb-false 5 b (f .2)))
+  event-out (suc (suc (suc (suc (suc zero))))) p a b e =
+      let f = none-met (leb P p) (not (tables64 .allowed a)) (ltb 7 b || false) 3 4 8 e in
+      in-event (f .0) (omega arith) (omega arith) (not-false _ (f .1)) (le-leb b 7 (ltb-false 7 b (sym (or-false (ltb 7 b)) ∙ f .2)))
+  event-out (suc (suc (suc (suc (suc (suc zero)))))) p a b e =
+      let f = none-met (leb P p) (ltb 7 a) (not (eqb b 0)) 3 8 10 e in
+      in-event (f .0) (omega arith) (omega arith) (le-leb a 7 (ltb-false 7 a (f .1))) (not-false _ (f .2))
+  event-out (suc (suc (suc (suc (suc (suc (suc zero))))))) p a b e =
+      let f = none-met (leb P p) (ltb 7 a) (not (eqb b 0)) 3 8 10 e in
+      in-event (f .0) (omega arith) (omega arith) (le-leb a 7 (ltb-false 7 a (f .1))) (not-false _ (f .2))
+  event-out (suc (suc (suc (suc (suc (suc (suc (suc n)))))))) p a b e =
+      absurd (one-met (leb P p) 3 10 (sym (unknown-kind (suc (suc (suc (suc (suc (suc (suc (suc n)))))))) p a b (omega arith)) ∙ e))
 
 -- which of its four numbers comes next
 module _ (G P : ℕ) (before : List ℕ) (v : ℕ) where

@@ -1,5 +1,6 @@
 -- What the reader of a puzzle may rely on.
 use mathlib.Core.Path.{_≡_, sym, _∙_}
+use mathlib.Core.Logic.{_↔_}
 use mathlib.Core.List.{List}
 use Prim.Native.Nat.{ℕ, _*_, _^_, _<_}
 use lib.ListN.{length, getD, length-replicate}
@@ -7,14 +8,15 @@ use Rattle.cursor.specs.Text.{valueOf, digitsOf}
 use Rattle.cursor.proofs.Decimals as decimals
 use Rattle.paging.specs.Layout.{frameWords}
 use Rattle.paging.proofs.Frames.{Distinct}
+use Rattle.rules.specs.declared.Event.{Event}
 use Rattle.rules.specs.History.{eventRefusal}
 use Rattle.rules.specs.Outcome.{questionRefusal}
 use Rattle.sections.specs.Sections.{got, Puzzle, puzzleOf}
 use Rattle.puzzle.specs.Buffers.{Buffers, After, wordsOf, readCall}
-use Rattle.puzzle.specs.Setup.{setupOf, eventOf, questionOf}
+use Rattle.puzzle.specs.Setup.{setup, setupOf, eventOf, questionOf, InEvent}
 use Rattle.puzzle.proofs.Accepted.{accepted}
 use Rattle.puzzle.proofs.Fills.{length-stored}
-use Rattle.puzzle.proofs.Fits.{frame-below, frames-differ, cr3-below, event-fits, question-fits}
+use Rattle.puzzle.proofs.Fits.{event-in, event-out, frame-below, frames-differ, cr3-below, event-fits, question-fits}
 
 -- THE PROMISE OF `read` ALLOWS ONE RESULT AND ONE CONTENT OF EACH BUFFER, on every text and all buffers, refused or not
 pub read-unique : (text : List ℕ) (before : Buffers) (x y : After) → x ≡ readCall text before → y ≡ readCall text before → x ≡ y
@@ -23,6 +25,13 @@ read-unique text before x y p q = p ∙ sym q
 -- READING BACK WHAT WAS WRITTEN: the digits of a number have its value
 pub value-digits : (n : ℕ) → valueOf (digitsOf n) ≡ n
 value-digits = decimals.value-digits
+
+-- 11 STANDS FOR 4 TO 9 AND FOR THE RULES' OWN 11: the four numbers of an event are in range if and only if the rules do not refuse it
+pub ranges-right : (G P : ℕ) (words cr3s : List ℕ) (e : Event) → eventRefusal (setup G P words cr3s) e ≡ 0 ↔ InEvent G P (e .kind) (e .proc) (e .a) (e .b)
+ranges-right G P words cr3s e = (
+  event-out G P words cr3s (e .kind) (e .proc) (e .a) (e .b),
+  λ i. event-in G P words cr3s (e .kind) (e .proc) (e .a) (e .b) (i .processor) (i .kinds .0) (i .kinds .1) (i .first) (i .second),
+)
 
 -- OF AN ACCEPTED TEXT NOTHING IS REFUSED LATER
 module _ (text : List ℕ) {z : Puzzle} {at : ℕ} (e : puzzleOf text ≡ got z at) where
