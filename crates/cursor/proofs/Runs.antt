@@ -1,6 +1,6 @@
 -- One byte further: the run of digits that is left, and its value.
 use mathlib.Core.Path.{_≡_, refl, sym, ap, ap₂, _∙_, subst⁻¹}
-use mathlib.Core.Bool.{Bool, true, false, cond, _&&_, and-false, false≢true}
+use mathlib.Core.Bool.{Bool, true, false, cond, and-false, false≢true}
 use mathlib.Core.List.{List, [], _∷_}
 use Prim.Native.Nat.{ℕ, suc, _+_, _-_, _*_, _^_, _≤_, _<_}
 use native.Mathlib.Nat.{le-refl, le-trans, add-zero}
@@ -10,7 +10,6 @@ use lib.ListN.{length, drop, getD, drop-of-length-le, length-drop}
 use lib.Seq.{getD-drop}
 use borrow.Author.Tests.{eq-eqb, ne-eqb, le-leb, lt-leb, lt-ltb, le-ltb}
 use Rattle.cursor.specs.declared.Cursor.{Cursor}
-use Rattle.cursor.specs.declared.Digits.{Digits}
 use Rattle.cursor.specs.declared.Digits.the-variants.{Value, Big}
 use Rattle.cursor.specs.declared.Next.the-variants.{Number, Bad}
 use Rattle.cursor.specs.Text.{Stands, lineAt, cursorAt, pastBlanks, isDigit, run, valueFrom, valueOf, digitsAt, isNumber, nextAt}

@@ -1,7 +1,7 @@
 // The text read number by number: a cursor by value, past the blanks, the next number.
 ghost use mathlib.Core.Path.{_≡_};
 ghost use Prim.Native.Nat.{_≤_};
-ghost use lib.ListN.{length, drop};
+ghost use lib.ListN.{length};
 ghost use Rattle.cursor.specs.Text.{Stands, cursorAt, pastBlanks, digitsAt, nextAt};
 
 // "The reader knows at each byte which line it has reached"

@@ -1,22 +1,22 @@
 -- What the calls say of the whole: the answer of a refused and of an accepted text.
 use mathlib.Core.Path.{_≡_, refl, sym, ap, ap₂, _∙_, subst, subst⁻¹}
-use mathlib.Core.Bool.{Bool, true, false, false≢true}
+use mathlib.Core.Bool.{true, false, false≢true}
 use mathlib.Core.List.{List}
-use Prim.Native.Nat.{ℕ, _+_, _*_, _%_, _/_, _≤_, _<_}
+use Prim.Native.Nat.{ℕ, _*_, _%_, _≤_, _<_}
 use native.Mathlib.Omega.{arith}
-use lib.Dec.{eqb, ltb}
-use lib.ListN.{length, take, drop, getD, replicate, length-replicate}
+use lib.Dec.{ltb}
+use lib.ListN.{length, take, getD, replicate, length-replicate}
 use lib.Seq.{length-take-le}
 use borrow.Author.Tests.{eq-eqb, ltb-true}
 use Rattle.sections.specs.declared.Section.the-variants.{Words}
 use Rattle.puzzle.specs.declared.ReadResult.{ReadResult}
 use Rattle.puzzle.specs.declared.ReadResult.the-variants.{Accepted, Refused}
 use Rattle.sections.specs.Sections.{Got, got, refused, Puzzle, puzzleOf, wordRange}
-use Rattle.puzzle.specs.Buffers.{Buffers, buffers, After, after, stored, wordsOf, laid, countsOf, verdictOf, answer}
+use Rattle.puzzle.specs.Buffers.{Buffers, buffers, after, stored, wordsOf, laid, verdictOf, answer}
 use Rattle.puzzle.specs.Parts.{WordsBelow, fronts, Whole, accepts}
 use Rattle.sections.proofs.Tests.{both-first}
 use Rattle.sections.proofs.Ranged.{Ranged}
-use Rattle.puzzle.proofs.Accepted.{InRange, accepted}
+use Rattle.puzzle.proofs.Accepted.{accepted}
 use Rattle.puzzle.proofs.Fills.{kept-laid, stored-laid, counts-are}
 
 -- a refused text

@@ -1,7 +1,7 @@
 -- The cursor stops past the blanks, on the line of that place.
 -- At every turn the line is the place's, and from this place on the blanks end where they ended before.
 use mathlib.Core.Path.{_≡_, refl, sym, ap, ap₂, _∙_}
-use Prim.Native.Nat.{ℕ, _+_, _-_, _≤_}
+use Prim.Native.Nat.{ℕ, _-_, _≤_}
 use native.Mathlib.Omega.{arith}
 use lib.ListN.{length}
 use Rattle.cursor.specs.Text.{lineAt, cursorAt, pastBlanks}

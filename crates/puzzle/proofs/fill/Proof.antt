@@ -1,11 +1,10 @@
 -- An accepted text stands in the lent buffers: its sections in front of them, its pairs stored among zeros.
-use mathlib.Core.Path.{_≡_, refl, sym, ap, _∙_, subst}
-use mathlib.Core.List.{List}
-use Prim.Native.Nat.{ℕ, _*_, _≤_, _<_}
+use mathlib.Core.Path.{_≡_, ap, _∙_}
+use Prim.Native.Nat.{_*_, _≤_}
 use native.Mathlib.Omega.{arith}
 use lib.ListN.{length, take, replicate}
 use borrow.Author.Needs.{needs}
-use Rattle.puzzle.specs.Buffers.{stored, laid}
+use Rattle.puzzle.specs.Buffers.{stored}
 use Rattle.puzzle.specs.Parts.{lists, Whole}
 use Rattle.puzzle.proofs.Calls.{not-refused, pairs-below, accepted-answer}
 use Rattle.puzzle.proofs.fill.Statement.{statement}

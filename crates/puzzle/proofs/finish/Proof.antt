@@ -1,13 +1,11 @@
 -- Past the blanks stands the end, or what is left over.
-use mathlib.Core.Path.{_≡_, sym, ap, ap₂, _∙_, subst, subst⁻¹}
-use mathlib.Core.List.{List}
-use Prim.Native.Nat.{ℕ, _≤_, _<_}
+use mathlib.Core.Path.{_≡_, sym, ap, _∙_}
 use native.Mathlib.Omega.{arith}
 use lib.ListN.{length}
 use borrow.Author.Needs.{needs}
 use borrow.Author.Tests.{eq-eqb, ne-eqb}
 use Rattle.cursor.specs.declared.Cursor.{Cursor}
-use Rattle.cursor.specs.Text.{lineAt, pastBlanks}
+use Rattle.cursor.specs.Text.{pastBlanks}
 use Rattle.cursor.proofs.Runs.{here-inside}
 use Rattle.puzzle.specs.declared.ReadResult.the-variants.{Refused}
 use Rattle.puzzle.proofs.finish.Statement.{statement}

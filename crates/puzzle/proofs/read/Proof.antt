@@ -1,12 +1,10 @@
 -- The call as a whole: lengths first, then the text's verdict, and only then the buffers.
-use mathlib.Core.Path.{_≡_, sym, ap, _∙_}
-use mathlib.Core.Bool.{true}
-use Prim.Native.Nat.{ℕ}
+use mathlib.Core.Path.{_≡_, sym, _∙_}
 use lib.ListN.{length}
 use borrow.Author.Needs.{needs}
 use borrow.Author.Tests.{eq-eqb, ne-eqb, le-leb, lt-leb}
 use Rattle.sections.specs.Sections.{puzzleOf}
-use Rattle.puzzle.specs.Buffers.{Buffers, buffers, sized, answer, readCall}
+use Rattle.puzzle.specs.Buffers.{buffers, answer, readCall}
 use Rattle.puzzle.proofs.Calls.{refused-answer, accepts-by}
 use Rattle.puzzle.proofs.read.Statement.{statement}
 use Rattle.puzzle.proofs.read.Tie as tie

@@ -1,6 +1,6 @@
 -- All sections in their order stand in their buffers, or the first fault is told.
 -- After each section the puzzle is what the rest of the text gives.
-use mathlib.Core.Path.{_≡_, refl, sym, ap, _∙_}
+use mathlib.Core.Path.{_≡_, refl, _∙_}
 use mathlib.Core.List.{List}
 use Prim.Native.Nat.{ℕ, _*_, _≤_}
 use native.Mathlib.Omega.{arith}
@@ -11,7 +11,7 @@ use Rattle.sections.specs.declared.Section.the-variants.{Map, Cr3s, Words, Even
 use Rattle.sections.specs.Sections.{Got, _then_, section, puzzleOf}
 use Rattle.sections.specs.Parts.{Front}
 use Rattle.puzzle.proofs.Cases.{sections-by}
-use Rattle.puzzle.proofs.Chain.{fromCr3s, fromWords, fromEvents, fromQuestions, fromEnd, after-start, after-map, after-cr3s, after-pairs, after-events, once, length-once, at-end}
+use Rattle.puzzle.proofs.Chain.{fromWords, fromEvents, fromQuestions, fromEnd, after-start, after-map, after-cr3s, after-pairs, after-events, once, length-once, at-end}
 use Rattle.puzzle.proofs.read_sections.Statement.{statement}
 use Rattle.puzzle.proofs.read_sections.Tie as tie
 

@@ -1,6 +1,6 @@
 -- Each word becomes its value. At every turn the pairs that are left, stored into the words so far, give the same.
-use mathlib.Core.Path.{_≡_, refl, sym, _∙_, subst}
-use Prim.Native.Nat.{ℕ, _+_, _-_, _*_, _≤_, _<_}
+use mathlib.Core.Path.{_≡_, refl, _∙_}
+use Prim.Native.Nat.{_-_, _*_, _≤_, _<_}
 use native.Mathlib.Omega.{arith}
 use lib.ListN.{length, take, drop, getD, length-set}
 use lib.Seq.{getD-take, length-take-le}

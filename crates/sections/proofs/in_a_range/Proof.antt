@@ -1,5 +1,4 @@
 -- Each return is one kind's range.
-use mathlib.Core.Path.{sym, _∙_}
 use borrow.Author.Needs.{needs}
 use borrow.Author.Tests.{eq-eqb, ne-eqb}
 use Rattle.sections.specs.Sections.{aRange}

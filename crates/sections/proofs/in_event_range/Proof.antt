@@ -1,8 +1,6 @@
 -- Each return is the range of one of the four numbers.
-use mathlib.Core.Path.{_≡_, sym, ap, _∙_}
-use Prim.Native.Nat.{ℕ, _-_, _*_, _%_, _≤_, _<_}
+use Prim.Native.Nat.{_-_, _%_}
 use native.Mathlib.Omega.{arith}
-use lib.ListN.{length, take, getD}
 use lib.Seq.{length-take-le, getD-take}
 use borrow.Author.Needs.{needs}
 use borrow.Author.Tests.{eq-eqb, ne-eqb, le-leb, lt-leb}

@@ -1,9 +1,9 @@
 -- No number before is v. What is left has v if and only if all of it has.
 use mathlib.Core.Path.{_≡_, refl, sym, ap, _∙_}
 use mathlib.Core.Bool.{not}
-use Prim.Native.Nat.{ℕ, _-_, _≤_}
+use Prim.Native.Nat.{_-_, _≤_}
 use native.Mathlib.Omega.{arith}
-use lib.ListN.{length, take, drop}
+use lib.ListN.{take, drop}
 use Rattle.sections.specs.Sections.{has}
 use Rattle.sections.proofs.Has.{has-here, has-next, has-end}
 use Rattle.sections.proofs.is_new.Statement.{statement}

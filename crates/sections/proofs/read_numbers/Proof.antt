@@ -1,10 +1,9 @@
 -- The numbers of a section stand in front of the buffer, or the first fault is told.
 -- At every turn the numbers that are left, after those in the buffer, give what all of them gave at the start.
-use mathlib.Core.Path.{_≡_, refl, sym, ap, _∙_, subst, subst⁻¹}
+use mathlib.Core.Path.{_≡_, sym, ap, _∙_, subst}
 use mathlib.Core.List.{[]}
-use Prim.Native.Nat.{ℕ, _*_, _-_, _≤_}
+use Prim.Native.Nat.{ℕ, _*_, _-_}
 use native.Mathlib.Omega.{arith}
-use lib.ListN.{length}
 use borrow.Author.Needs.{needs}
 use borrow.Author.Tests.{not-true, not-false}
 use Rattle.sections.specs.Sections.{width, inRange, numbers, refused}
