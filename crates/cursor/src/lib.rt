@@ -1,0 +1,92 @@
+// The text read number by number: a cursor by value, past the blanks, the next number.
+ghost use mathlib.Core.Path.{_≡_};
+ghost use Prim.Native.Nat.{_≤_};
+ghost use lib.ListN.{length};
+ghost use Rattle.cursor.specs.Text.{Stands, cursorAt, pastBlanks, digitsAt, nextAt};
+
+// "The reader knows at each byte which line it has reached"
+pub struct Cursor {
+    pub at: usize,
+    pub line: u64,
+}
+
+// The value of a run of digits and the place after it; or 2^64 or more.
+pub enum Digits {
+    Value(u64, usize),
+    Big,
+}
+
+// A number and the cursor after it, on the number's own line; or the line where none can be read: refusal 10.
+pub enum Next {
+    Number(u64, Cursor),
+    Bad(u64),
+}
+
+pub fn skip(text: &[u8], c: Cursor) -> Cursor
+    requires { ⌜ Stands (now text) c ⌝ }
+    ensures { λ r. ⌜ r ≡ cursorAt (now (text .entry)) (pastBlanks (now (text .entry)) (c .at)) ⌝ }
+{
+    let mut at = c.at;
+    let mut line = c.line;
+    while at < text.len() {
+        let b = text[at];
+        if b == b'\n' {
+            line += 1;
+            at += 1;
+        } else {
+            if b == b' ' {
+                at += 1;
+            } else {
+                return Cursor { at, line };
+            }
+        }
+    }
+    Cursor { at, line }
+}
+
+pub fn read_digits(text: &[u8], from: usize) -> Digits
+    requires { ⌜ from ≤ length (now text) ⌝ }
+    ensures { λ r. ⌜ r ≡ digitsAt (now (text .entry)) from ⌝ }
+{
+    let mut at = from;
+    let mut value: u64 = 0;
+    while at < text.len() {
+        let b = text[at];
+        if b < b'0' {
+            return Digits::Value(value, at);
+        }
+        if b > b'9' {
+            return Digits::Value(value, at);
+        }
+        let d = (b - b'0') as u64;
+        if value > (18446744073709551615 - d) / 10 {
+            return Digits::Big;
+        }
+        value = value * 10 + d;
+        at += 1;
+    }
+    Digits::Value(value, at)
+}
+
+pub fn next_number(text: &[u8], c: Cursor) -> Next
+    requires { ⌜ Stands (now text) c ⌝ }
+    ensures { λ r. ⌜ r ≡ nextAt (now (text .entry)) (c .at) ⌝ }
+{
+    let here = skip(text, c);
+    let at = here.at;
+    let line = here.line;
+    match read_digits(text, at) {
+        Digits::Big => Next::Bad(line),
+        Digits::Value(value, end) => {
+            if end == at {
+                return Next::Bad(line);
+            }
+            if text[at] == b'0' {
+                if end > at + 1 {
+                    return Next::Bad(line);
+                }
+            }
+            Next::Number(value, Cursor { at: end, line })
+        }
+    }
+}

@@ -1,0 +1,110 @@
+-- What the buffers hold after a puzzle has been laid into them.
+use mathlib.Core.Path.{_≡_, refl, sym, ap, ap₂, _∙_, subst, subst⁻¹}
+use mathlib.Core.List.{List, [], _∷_, _++_}
+use Prim.Native.Nat.{ℕ, suc, _+_, _*_, _/_, _≤_, _<_}
+use native.Mathlib.Numerals.{add-one}
+use native.Mathlib.Omega.{arith}
+use lib.ListN.{length, take, drop, getD, set, replicate, length-set, length-replicate, take-append-drop, replicate-append-replicate, drop-of-length-le}
+use lib.Seq.{take-suc-set, length-take-le, set-append-left}
+use Rattle.puzzle.specs.declared.ReadResult.{ReadResult}
+use Rattle.puzzle.specs.declared.ReadResult.the-variants.{Accepted, Refused}
+use Rattle.sections.specs.Sections.{Puzzle, puzzleOf}
+use Rattle.sections.specs.Parts.{Kept}
+use Rattle.puzzle.specs.Buffers.{stored, laid, countsOf, verdictOf}
+use Rattle.puzzle.specs.Parts.{WordsBelow, fronts, Whole, SectionsAre}
+use Rattle.sections.proofs.Has.{left}
+
+-- ---- the front of a list
+
+pub laid-by : (new l old : List ℕ) → take (length new) l ≡ new → drop (length new) l ≡ drop (length new) old → l ≡ laid new old
+unfolding laid
+laid-by new l old t d = sym (take-append-drop (length new) l) ∙ ap₂ (λ (a b : List ℕ). a ++ b) t d
+
+-- a buffer with n new elements in front
+pub kept-laid : {old new : List ℕ} {n : ℕ} → Kept old new n → new ≡ laid (take n new) old
+kept-laid {old} {new} {n} k =
+    let e = length-take-le n new (k .fits) in
+    laid-by (take n new) new old (ap (λ (i : ℕ). take i new) e)
+    (ap (λ (i : ℕ). drop i new) e ∙ k .stays ∙ ap (λ (i : ℕ). drop i old) (sym e))
+
+-- ---- zeros
+
+pub zeros-more : (l : List ℕ) (i : ℕ) → i < length l → take i l ≡ replicate i 0 → take (i + 1) (set l i 0) ≡ replicate (i + 1) 0
+zeros-more l i h e =
+    ap (λ (k : ℕ). take k (set l i 0)) (add-one i) ∙ take-suc-set l i 0 h ∙ ap (λ (m : List ℕ). m ++ 0 ∷ []) e ∙ replicate-append-replicate i 1 0
+
+pub zeros-all : (l old : List ℕ) (n : ℕ) → take n l ≡ replicate n 0 → drop n l ≡ drop n old → l ≡ laid (replicate n 0) old
+zeros-all l old n t d =
+    let e = length-replicate {A = ℕ} n 0 in
+    laid-by (replicate n 0) l old (ap (λ (i : ℕ). take i l) e ∙ t) (ap (λ (i : ℕ). drop i l) e ∙ d ∙ ap (λ (i : ℕ). drop i old) (sym e))
+
+-- ---- pairs of word and value
+
+module _ (l : List ℕ) (n i : ℕ) (h : n * 2 ≤ length l) where
+  pub pair-more : (words : List ℕ) → i < n
+      → stored (drop ((i + 1) * 2) (take (n * 2) l)) (set words (getD l (i * 2) 0) (getD l (i * 2 + 1) 0)) ≡ stored (drop (i * 2) (take (n * 2) l)) words
+  unfolding stored
+  pair-more words k =
+      let e : i * 2 + 1 + 1 ≡ (i + 1) * 2 = omega arith in
+      let d : drop (i * 2) (take (n * 2) l) ≡ getD l (i * 2) 0 ∷ getD l (i * 2 + 1) 0 ∷ drop ((i + 1) * 2) (take (n * 2) l) =
+      left l (n * 2) (i * 2) 0 h (omega arith)
+      ∙ ap (λ (m : List ℕ). getD l (i * 2) 0 ∷ m) (left l (n * 2) (i * 2 + 1) 0 h (omega arith) ∙ ap (λ (j : ℕ). getD l (i * 2 + 1) 0 ∷ drop j (take (n * 2) l)) e) in
+      sym (ap (λ (m : List ℕ). stored m words) d)
+
+  pub pair-end : (words : List ℕ) → n ≤ i → words ≡ stored (drop (i * 2) (take (n * 2) l)) words
+  unfolding stored
+  pair-end words k =
+      let m = length-take-le (n * 2) l h in
+      let e : length (take (n * 2) l) ≤ i * 2 = omega arith in
+      sym (ap (λ (m : List ℕ). stored m words) (drop-of-length-le (take (n * 2) l) e))
+
+pub length-stored : (pairs words : List ℕ) → length (stored pairs words) ≡ length words
+unfolding stored
+length-stored [] words = refl
+length-stored (w ∷ []) words = refl
+length-stored (w ∷ v ∷ ps) words = length-stored ps (set words w v) ∙ length-set words w v
+
+below-set : (w v : ℕ) (words ps : List ℕ) (i : ℕ) → getD (w ∷ v ∷ ps) (suc i * 2) 0 < length words → getD ps (i * 2) 0 < length (set words w v)
+below-set w v words ps i h =
+    let e : suc i * 2 ≡ suc (suc (i * 2)) = omega arith in
+    subst⁻¹ (λ (n : ℕ). getD ps (i * 2) 0 < n) (length-set words w v) (subst (λ (n : ℕ). getD (w ∷ v ∷ ps) n 0 < length words) e h)
+
+stored-append : (pairs words rest : List ℕ) → WordsBelow (length words) pairs → stored pairs (words ++ rest) ≡ stored pairs words ++ rest
+unfolding stored
+stored-append [] words rest b = refl
+stored-append (w ∷ []) words rest b = refl
+stored-append (w ∷ v ∷ ps) words rest b =
+    let here : w < length words = b 0 (omega arith) in
+    ap (stored ps) (set-append-left words rest w v here)
+    ∙ stored-append ps (set words w v) rest (λ i h. below-set w v words ps i (b (suc i) (omega arith)))
+
+-- pairs whose words are among the first n change only these
+pub stored-laid : (pairs zeros old : List ℕ) → WordsBelow (length zeros) pairs → stored pairs (laid zeros old) ≡ laid (stored pairs zeros) old
+unfolding laid
+stored-laid pairs zeros old b =
+    stored-append pairs zeros (drop (length zeros) old) b
+    ∙ ap (λ (n : ℕ). stored pairs zeros ++ drop n old) (sym (length-stored pairs zeros))
+
+-- ---- what the sections say of the result
+
+double : (n : ℕ) → n * 2 / 2 ≡ n
+double n = omega arith
+
+quad : (n : ℕ) → n * 4 / 4 ≡ n
+quad n = omega arith
+
+triple : (n : ℕ) → n * 3 / 3 ≡ n
+triple n = omega arith
+
+pub counts-are : {text : List ℕ} {old new : Puzzle} {g p w e q : ℕ} → Whole text old new g p w e q → Accepted g p w e q ≡ countsOf (fronts new g p (w * 2) (e * 4) (q * 3))
+counts-are {new = new} {g = g} {p = p} {w = w} {e = e} {q = q} k =
+    let a : length (take g (new .map)) ≡ g = length-take-le g (new .map) (k .map .fits) in
+    let b : length (take p (new .cr3s)) ≡ p = length-take-le p (new .cr3s) (k .cr3s .fits) in
+    let c : length (take (w * 2) (new .pairs)) / 2 ≡ w = ap (λ (n : ℕ). n / 2) (length-take-le (w * 2) (new .pairs) (k .pairs .fits)) ∙ double w in
+    let d : length (take (e * 4) (new .events)) / 4 ≡ e = ap (λ (n : ℕ). n / 4) (length-take-le (e * 4) (new .events) (k .events .fits)) ∙ quad e in
+    let f : length (take (q * 3) (new .questions)) / 3 ≡ q = ap (λ (n : ℕ). n / 3) (length-take-le (q * 3) (new .questions) (k .questions .fits)) ∙ triple q in
+    simp (a, b, c, d, f)
+
+pub verdict-is : {text : List ℕ} {old new : Puzzle} (r : ReadResult) → SectionsAre text old new r → r ≡ verdictOf (puzzleOf text)
+verdict-is (Accepted g p w e q) s = let k = s .read refl in counts-are k ∙ sym (ap verdictOf (k .says))
+verdict-is (Refused number line) s = sym (ap verdictOf (s .fault refl))

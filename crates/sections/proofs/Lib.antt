@@ -1,0 +1,5 @@
+pub mod Tests
+pub mod Has
+pub mod Cases
+pub mod Numbers
+pub mod Ranged

@@ -1,0 +1,217 @@
+// A section of a puzzle text: a count and its numbers, each in its range, read into the front of a buffer.
+use cursor::Cursor;
+use cursor::Next;
+ghost use mathlib.Core.Path.{_≡_};
+ghost use mathlib.Core.Bool.{not};
+ghost use mathlib.Core.List.{[]};
+ghost use Prim.Native.Nat.{_*_, _≤_};
+ghost use lib.ListN.{length, take};
+ghost use Rattle.cursor.specs.Text.{Stands};
+ghost use Rattle.sections.specs.Sections.{has, mapRange, wordRange, aRange, bRange, eventRange, questionRange, width, countRange, inRange, numbers, section};
+ghost use Rattle.sections.specs.Parts.{capacity, PartIs};
+
+// The sections of a puzzle text, in their order.
+pub enum Section {
+    Map,
+    Cr3s,
+    Words,
+    Events,
+    Questions,
+}
+
+// The count of a section and the cursor after it, or a refusal number and its line.
+pub enum Part {
+    Read(u64, Cursor),
+    Refused(u64, u64),
+}
+
+fn is_new(before: &[u64], n: usize, v: u64) -> bool
+    requires { ⌜ n ≤ length (now before) ⌝ }
+    ensures { λ r. ⌜ r ≡ not (has v (take n (now (before .entry)))) ⌝ }
+{
+    let mut i = 0;
+    while i < n {
+        if before[i] == v {
+            return false;
+        }
+        i += 1;
+    }
+    true
+}
+
+fn in_map_range(before: &[u64], i: usize, v: u64) -> bool
+    requires { ⌜ i ≤ length (now before) ⌝ }
+    ensures { λ r. ⌜ r ≡ mapRange (take i (now (before .entry))) v ⌝ }
+{
+    if v >= 0x10_0000 {
+        return false;
+    }
+    is_new(before, i, v)
+}
+
+fn in_word_range(g: u64, before: &[u64], i: usize, v: u64) -> bool
+    requires { ⌜ (g ≤ 16) × (i ≤ length (now before)) ⌝ }
+    ensures { λ r. ⌜ r ≡ wordRange g (take i (now (before .entry))) v ⌝ }
+{
+    if i % 2 != 0 {
+        return true;
+    }
+    if v >= 512 * g {
+        return false;
+    }
+    if i == 0 {
+        return true;
+    }
+    before[i - 2] < v
+}
+
+fn in_a_range(g: u64, kind: u64, a: u64) -> bool
+    requires { ⌜ g ≤ 16 ⌝ }
+    ensures { λ r. ⌜ r ≡ aRange g kind a ⌝ }
+{
+    if kind == 1 {
+        return a < 512 * g;
+    }
+    if kind == 3 {
+        return a < g;
+    }
+    if kind == 6 {
+        return a <= 7;
+    }
+    if kind == 7 {
+        return a <= 7;
+    }
+    paging::is_allowed(a)
+}
+
+fn in_b_range(kind: u64, b: u64) -> bool
+    ensures { λ r. ⌜ r ≡ bRange kind b ⌝ }
+{
+    if kind == 1 {
+        return true;
+    }
+    if kind == 4 {
+        return b <= 5;
+    }
+    if kind == 5 {
+        return b <= 7;
+    }
+    b == 0
+}
+
+fn in_event_range(g: u64, p: u64, before: &[u64], i: usize, v: u64) -> bool
+    requires { ⌜ (g ≤ 16) × (i ≤ length (now before)) ⌝ }
+    ensures { λ r. ⌜ r ≡ eventRange g p (take i (now (before .entry))) v ⌝ }
+{
+    let part = i % 4;
+    if part == 0 {
+        return v < p;
+    }
+    if part == 1 {
+        return 1 <= v && v <= 7;
+    }
+    if part == 2 {
+        return in_a_range(g, before[i - 1], v);
+    }
+    in_b_range(before[i - 2], v)
+}
+
+fn in_question_range(p: u64, i: usize, v: u64) -> bool
+    ensures { λ r. ⌜ r ≡ questionRange p i v ⌝ }
+{
+    let part = i % 3;
+    if part == 0 {
+        return v < p;
+    }
+    if part == 1 {
+        return paging::is_allowed(v);
+    }
+    v <= 5
+}
+
+fn in_range(which: Section, g: u64, p: u64, before: &[u64], i: usize, v: u64) -> bool
+    requires { ⌜ (g ≤ 16) × (i ≤ length (now before)) ⌝ }
+    ensures { λ r. ⌜ r ≡ inRange which g p (take i (now (before .entry))) v ⌝ }
+{
+    match which {
+        Section::Map => in_map_range(before, i, v),
+        Section::Cr3s => v < g,
+        Section::Words => in_word_range(g, before, i, v),
+        Section::Events => in_event_range(g, p, before, i, v),
+        Section::Questions => in_question_range(p, i, v),
+    }
+}
+
+fn width_of(which: Section) -> usize
+    ensures { λ r. ⌜ r ≡ width which ⌝ }
+{
+    match which {
+        Section::Map => 1,
+        Section::Cr3s => 1,
+        Section::Words => 2,
+        Section::Events => 4,
+        Section::Questions => 3,
+    }
+}
+
+fn in_count_range(which: Section, g: u64, n: u64) -> bool
+    requires { ⌜ g ≤ 16 ⌝ }
+    ensures { λ r. ⌜ r ≡ countRange which g n ⌝ }
+{
+    match which {
+        Section::Map => 1 <= n && n <= 16,
+        Section::Cr3s => 1 <= n && n <= 4,
+        Section::Words => n <= 512 * g,
+        Section::Events => n <= 256,
+        Section::Questions => 1 <= n && n <= 16,
+    }
+}
+
+fn read_numbers(
+    text: &[u8],
+    from: Cursor,
+    which: Section,
+    g: u64,
+    p: u64,
+    count: u64,
+    buffer: &mut [u64],
+) -> Part
+    requires { ⌜ Stands (now text) from × (g ≤ 16) × (count * width which ≤ length (now buffer)) ⌝ }
+    ensures { λ r. ⌜ PartIs (numbers (inRange which g p) (now (text .entry)) (count * width which) [] (from .at)) (width which) (now (text .entry)) (now (buffer .entry)) (now (buffer .exit)) r ⌝ }
+{
+    let n = count as usize * width_of(which);
+    let mut c = from;
+    let mut i = 0;
+    while i < n {
+        match cursor::next_number(text, c) {
+            Next::Bad(line) => {
+                return Part::Refused(10, line);
+            }
+            Next::Number(v, after) => {
+                if !in_range(which, g, p, buffer, i, v) {
+                    return Part::Refused(11, after.line);
+                }
+                buffer[i] = v;
+                c = after;
+                i += 1;
+            }
+        }
+    }
+    Part::Read(count, c)
+}
+
+// A section after its count. The buffer has room for the longest one.
+pub fn read(text: &[u8], from: Cursor, which: Section, g: u64, p: u64, buffer: &mut [u64]) -> Part
+    requires { ⌜ Stands (now text) from × (g ≤ 16) × (length (now buffer) ≡ capacity which) ⌝ }
+    ensures { λ r. ⌜ PartIs (section which g p (now (text .entry)) (from .at)) (width which) (now (text .entry)) (now (buffer .entry)) (now (buffer .exit)) r ⌝ }
+{
+    match cursor::next_number(text, from) {
+        Next::Bad(line) => Part::Refused(10, line),
+        Next::Number(count, c) => {
+            if !in_count_range(which, g, count) {
+                return Part::Refused(11, c.line);
+            }
+            read_numbers(text, c, which, g, p, count, buffer)
+        }
+    }
+}
