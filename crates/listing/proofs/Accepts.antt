@@ -19,7 +19,8 @@ use Rattle.rules.specs.History.{Setup, Fit, eventAt, eventRefusal, eventTests}
 use Rattle.rules.specs.Outcome.{questionRefusal}
 use Rattle.rules.proofs.Ranges.{Clear, clear, event-clear, cr3-within}
 use Rattle.marks.specs.Work.{workBytes, Room}
-use Rattle.listing.specs.Call.{Asked, Lent, setupOf, eventOf, eventsOf, sizesFit, lengthsFit, cr3sFit, orElse, firstRefusal, listRefusal}
+use Rattle.listing.specs.Call.{Asked, Lent, setupOf, sizesFit, lengthsFit, cr3sFit, orElse, firstRefusal, listRefusal}
+use Rattle.rules.specs.Numbers.{eventOf, eventsOf}
 use Rattle.listing.specs.Replay.{Reach}
 use Rattle.listing.specs.Answer.{Ready}
 use Rattle.listing.proofs.Refuses.{or-none, first-each}

@@ -25,7 +25,8 @@ use Rattle.marks.proofs.Cells.{cell-below}
 use Rattle.marks.proofs.Tracks.{Told, Tracks}
 use Rattle.listing.specs.declared.Listed.{Listed}
 use Rattle.listing.specs.declared.Listed.the-variants.{Count, Refused}
-use Rattle.listing.specs.Call.{Asked, Lent, lent, setupOf, eventsOf, pairs, refusalOf, countOf, listRefusal, Lists, ListCall}
+use Rattle.listing.specs.Call.{Asked, Lent, lent, setupOf, pairs, refusalOf, countOf, listRefusal, Lists, ListCall}
+use Rattle.rules.specs.Numbers.{eventsOf}
 use Rattle.listing.specs.Replay.{Replay, replayOf}
 use Rattle.listing.specs.Collect.{Out, outOf, walkAt, collected}
 use Rattle.listing.specs.Answer.{stateAt, Answers}

@@ -12,7 +12,8 @@ use Rattle.paging.specs.Frame.{mapFits}
 use Rattle.rules.specs.Refusal.{refusal}
 use Rattle.rules.specs.History.{eventRefusal}
 use Rattle.rules.specs.Outcome.{questionRefusal}
-use Rattle.listing.specs.Call.{Asked, Lent, setupOf, eventOf, lengthsFit, cr3sFit, orElse, firstRefusal, listRefusal}
+use Rattle.listing.specs.Call.{Asked, Lent, setupOf, lengthsFit, cr3sFit, orElse, firstRefusal, listRefusal}
+use Rattle.rules.specs.Numbers.{eventOf}
 
 pub or-first : (n m : ℕ) → (n ≡ 0 → ⊥) → orElse n m ≡ n
 or-first n m h = simp (ne-eqb n 0 h)

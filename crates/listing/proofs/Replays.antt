@@ -28,7 +28,7 @@ use Rattle.marks.proofs.Cells.{cell-below, complete-first}
 use Rattle.marks.proofs.Closing.{Grows, word-grows}
 use Rattle.marks.proofs.Tracks.{Told, Tracks, after-store, after-idle}
 use Rattle.marks.proofs.Clears.{cleared-size, cleared-above, from-start, after-end, restart-grows}
-use Rattle.listing.specs.Call.{eventOf}
+use Rattle.rules.specs.Numbers.{eventOf}
 use Rattle.listing.specs.Replay.{Replay, replayOf, Reach, forgets, applied, replayed}
 use Rattle.listing.proofs.Applies.{forgets-all, forgets-partial, applied-store, applied-other, applied-invlpg, applied-cr3, applied-none, applied-in}
 

@@ -9,7 +9,7 @@ use Rattle.paging.specs.Request.{requestOf}
 use Rattle.rules.specs.declared.Question.{Question}
 use Rattle.marks.specs.Work.{Room}
 use Rattle.marks.specs.Follow.{restarted}
-use Rattle.listing.specs.Call.{eventOf}
+use Rattle.rules.specs.Numbers.{eventOf}
 use Rattle.listing.specs.Replay.{Replay, replayOf, Reach, replayed}
 use Rattle.listing.specs.Collect.{outOf, collected}
 

@@ -5,16 +5,16 @@ use mathlib.Core.List.{List, [], _∷_, _++_}
 use Prim.Native.Nat.{ℕ, zero, suc, _+_, _*_, _/_, _%_, _^_}
 use lib.Dec.{eqb, ltb, leb}
 use lib.ListN.{length, getD, drop}
-use Rattle.paging.specs.Numbers.{all, tab, isBetween}
+use Rattle.paging.specs.Numbers.{all, isBetween}
 use Rattle.paging.specs.Frame.{mapFits}
 use Rattle.paging.specs.Layout.{tables64, frameWords, pageOf}
-use Rattle.rules.specs.declared.Event.{Event}
 use Rattle.rules.specs.declared.Question.{Question}
 use Rattle.rules.specs.declared.Outcome.{Outcome}
 use Rattle.rules.specs.declared.Outcome.the-variants.{Address, Fault}
 use Rattle.rules.specs.Refusal.{test, refusal}
-use Rattle.rules.specs.History.{Setup, eventRefusal, wordsAt}
+use Rattle.rules.specs.History.{Setup, setup64, eventRefusal, wordsAt}
 use Rattle.rules.specs.View.{viewOf}
+use Rattle.rules.specs.Numbers.{eventOf, eventsOf}
 use Rattle.rules.specs.Held.{Held}
 use Rattle.rules.specs.Outcome.{RightAt, questionRefusal}
 use Rattle.marks.specs.Work.{workBytes, WorkSays}
@@ -40,15 +40,8 @@ pub record Lent : Type 0 where
 abbrev pub lent : List ℕ → List ℕ → List ℕ → Lent
 lent w k o = record { words = w; work = k; outcomes = o }
 
--- "Four numbers each: processor p, kind, a, b"
-abbrev pub eventOf : List ℕ → ℕ → Event
-eventOf ns k = record { proc = getD ns (4 * k) 0; kind = getD ns (4 * k + 1) 0; a = getD ns (4 * k + 2) 0; b = getD ns (4 * k + 3) 0 }
-
-unfoldable pub eventsOf : List ℕ → List Event
-eventsOf ns = tab (length ns / 4) (eventOf ns)
-
 abbrev pub setupOf : Asked → Lent → Setup
-setupOf q b = record { tables = tables64; frames = length (q .map); processors = length (q .cr3s); words = b .words; cr3s = q .cr3s }
+setupOf q b = setup64 (length (q .map)) (length (q .cr3s)) (b .words) (q .cr3s)
 
 -- ---- refusals
 

@@ -12,7 +12,7 @@ use Rattle.paging.specs.Layout.{tables64, frameWords, pageOf}
 use Rattle.rules.specs.declared.Event.{Event}
 use Rattle.rules.specs.History.{isStore, isInvlpg, isCr3Write, isBy}
 use Rattle.marks.specs.Follow.{rereadWord, restarted}
-use Rattle.listing.specs.Call.{eventOf}
+use Rattle.rules.specs.Numbers.{eventOf}
 
 pub record Replay : Type 0 where
   pub cr3 : ℕ

@@ -12,13 +12,14 @@ use borrow.Author.Tests.{eq-eqb, ne-eqb, lt-ltb, lt-leb, le-leb, le-ltb, ltb-tru
 use Rattle.paging.specs.Layout.{tables64}
 use Rattle.paging.proofs.Frames.{Distinct}
 use Rattle.rules.specs.Refusal.{refusal}
-use Rattle.rules.specs.History.{Setup, eventRefusal}
+use Rattle.rules.specs.History.{Setup, eventRefusal, setup64}
 use Rattle.rules.specs.Outcome.{questionRefusal}
 use Rattle.sections.specs.declared.Section.the-variants.{Map, Cr3s, Events, Questions}
 use Rattle.sections.specs.Sections.{has, mapRange, aRange, bRange, eventRange, questionRange}
 use Rattle.sections.proofs.Tests.{both-first, both-second}
 use Rattle.sections.proofs.Ranged.{Ranged}
-use Rattle.puzzle.specs.Setup.{setup, eventOf, questionOf, InEvent}
+use Rattle.rules.specs.Numbers.{eventOf, questionOf}
+use Rattle.puzzle.specs.Setup.{InEvent}
 
 -- ---- map frames
 
@@ -70,7 +71,7 @@ one-met false i j e = omega arith
 
 module _ (G P : ℕ) (words cr3s : List ℕ) where
   abbrev U : Setup
-  U = setup G P words cr3s
+  U = setup64 G P words cr3s
 
   pub event-in : (kind p a b : ℕ) → p < P → 1 ≤ kind → kind ≤ 7 → aRange G kind a ≡ true → bRange kind b ≡ true
       → eventRefusal U (record { proc = p; kind = kind; a = a; b = b }) ≡ 0

@@ -9,11 +9,12 @@ use Rattle.cursor.proofs.Decimals as decimals
 use Rattle.paging.specs.Layout.{frameWords}
 use Rattle.paging.proofs.Frames.{Distinct}
 use Rattle.rules.specs.declared.Event.{Event}
-use Rattle.rules.specs.History.{eventRefusal}
+use Rattle.rules.specs.History.{eventRefusal, setup64}
 use Rattle.rules.specs.Outcome.{questionRefusal}
 use Rattle.sections.specs.Sections.{got, Puzzle, puzzleOf}
 use Rattle.puzzle.specs.Buffers.{Buffers, After, wordsOf, readCall}
-use Rattle.puzzle.specs.Setup.{setup, setupOf, eventOf, questionOf, InEvent}
+use Rattle.rules.specs.Numbers.{eventOf, questionOf}
+use Rattle.puzzle.specs.Setup.{setupOf, InEvent}
 use Rattle.puzzle.proofs.Accepted.{accepted}
 use Rattle.puzzle.proofs.Fills.{length-stored}
 use Rattle.puzzle.proofs.Fits.{event-in, event-out, frame-below, frames-differ, cr3-below, event-fits, question-fits}
@@ -27,7 +28,7 @@ pub value-digits : (n : ℕ) → valueOf (digitsOf n) ≡ n
 value-digits = decimals.value-digits
 
 -- 11 STANDS FOR 4 TO 9 AND FOR THE RULES' OWN 11: the four numbers of an event are in range if and only if the rules do not refuse it
-pub ranges-right : (G P : ℕ) (words cr3s : List ℕ) (e : Event) → eventRefusal (setup G P words cr3s) e ≡ 0 ↔ InEvent G P (e .kind) (e .proc) (e .a) (e .b)
+pub ranges-right : (G P : ℕ) (words cr3s : List ℕ) (e : Event) → eventRefusal (setup64 G P words cr3s) e ≡ 0 ↔ InEvent G P (e .kind) (e .proc) (e .a) (e .b)
 ranges-right G P words cr3s e = (
   event-out G P words cr3s (e .kind) (e .proc) (e .a) (e .b),
   λ i. event-in G P words cr3s (e .kind) (e .proc) (e .a) (e .b) (i .processor) (i .kinds .0) (i .kinds .1) (i .first) (i .second),

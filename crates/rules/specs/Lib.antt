@@ -3,4 +3,5 @@ pub mod History
 pub mod View
 pub mod Held
 pub mod Outcome
+pub mod Numbers
 pub mod Known

@@ -7,7 +7,8 @@ use lib.ListN.{length}
 use borrow.Author.Needs.{needs}
 use Rattle.rules.specs.declared.Event.{Event}
 use Rattle.rules.specs.History.{setup64, eventRefusal}
-use Rattle.listing.specs.Call.{eventOf, firstRefusal}
+use Rattle.listing.specs.Call.{firstRefusal}
+use Rattle.rules.specs.Numbers.{eventOf}
 use Rattle.listing.proofs.Refuses.{first-none, first-more, first-here}
 use Rattle.listing.proofs.events_refusal.Statement.{statement}
 use Rattle.listing.proofs.events_refusal.Tie as tie
