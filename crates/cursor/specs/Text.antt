@@ -80,3 +80,13 @@ nextAt text at =
     let here = pastBlanks text at in
     let digits = run (drop here text) in
     cond (isNumber digits) (Number (valueOf digits) (cursorAt text (here + length digits))) (Bad (lineAt text here))
+
+-- the cursor past a number; where there is none it stays
+abbrev pub pastNumber : Next → Cursor → Cursor
+pastNumber (Number v after) c = after
+pastNumber (Bad line) c = c
+
+-- a step over a lent cursor: its answer, and the cursor after it
+pub record Stepped (text : List ℕ) (c : Cursor) (r : Next) (after : Cursor) : Type 0 where
+  pub answer : r ≡ nextAt text (c .at)
+  pub moved : after ≡ pastNumber r c

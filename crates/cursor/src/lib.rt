@@ -2,7 +2,7 @@
 ghost use mathlib.Core.Path.{_≡_};
 ghost use Prim.Native.Nat.{_≤_};
 ghost use lib.ListN.{length};
-ghost use Rattle.cursor.specs.Text.{Stands, cursorAt, pastBlanks, digitsAt, nextAt};
+ghost use Rattle.cursor.specs.Text.{Stands, cursorAt, pastBlanks, digitsAt, nextAt, pastNumber, Stepped};
 
 // "The reader knows at each byte which line it has reached"
 pub struct Cursor {
@@ -89,4 +89,35 @@ pub fn next_number(text: &[u8], c: Cursor) -> Next
             Next::Number(value, Cursor { at: end, line })
         }
     }
+}
+
+// The same step over a lent cursor. Proved by hand: a reference to a struct is not covered.
+pub fn skip_lent(text: &[u8], c: &mut Cursor)
+    requires { ⌜ Stands (now text) (now c) ⌝ }
+    ensures { λ _. ⌜ now (c .exit) ≡ cursorAt (now (text .entry)) (pastBlanks (now (text .entry)) (now (c .entry) .at)) ⌝ }
+{
+    let r = skip(text, *c);
+    *c = r;
+}
+
+// Past the number; where there is none the cursor stays.
+pub fn past(n: Next, c: Cursor) -> Cursor
+    ensures { λ r. ⌜ r ≡ pastNumber n c ⌝ }
+{
+    match n {
+        Next::Number(_, after) => after,
+        Next::Bad(_) => c,
+    }
+}
+
+// The next number over a lent cursor, which then stands past it. Proved by hand.
+pub fn next_lent(text: &[u8], c: &mut Cursor) -> Next
+    requires { ⌜ Stands (now text) (now c) ⌝ }
+    ensures { λ r. ⌜ Stepped (now (text .entry)) (now (c .entry)) r (now (c .exit)) ⌝ }
+{
+    let here = *c;
+    let n = next_number(text, here);
+    let after = past(n, here);
+    *c = after;
+    n
 }

@@ -12,7 +12,7 @@ use Rattle.sections.specs.declared.Section.the-variants.{Words}
 use Rattle.puzzle.specs.declared.ReadResult.{ReadResult}
 use Rattle.puzzle.specs.declared.ReadResult.the-variants.{Accepted, Refused}
 use Rattle.sections.specs.Sections.{Got, got, refused, Puzzle, puzzleOf, wordRange}
-use Rattle.puzzle.specs.Buffers.{Buffers, buffers, after, stored, wordsOf, laid, verdictOf, answer}
+use Rattle.puzzle.specs.Buffers.{Buffers, buffers, after, withPairs, wordsOf, laid, verdictOf, answer}
 use Rattle.puzzle.specs.Parts.{WordsBelow, fronts, Whole, accepts}
 use Rattle.sections.proofs.Tests.{both-first}
 use Rattle.sections.proofs.Ranged.{Ranged}
@@ -51,7 +51,7 @@ module _ {text : List ℕ} {old new : Puzzle} {g p w e q : ℕ} (k : Whole text 
       subst (λ (n : ℕ). WordsBelow (512 * n) (take (w * 2) (new .pairs))) frames-are (words-below (accepted text (k .says) .pairs))
 
   -- an accepted text, with its words stored
-  pub accepted-answer : (words : List ℕ) {last : List ℕ} → last ≡ stored (take (w * 2) (new .pairs)) (laid (replicate (512 * g) 0) words)
+  pub accepted-answer : (words : List ℕ) {last : List ℕ} → last ≡ withPairs (take (w * 2) (new .pairs)) (laid (replicate (512 * g) 0) words)
       → after (Accepted g p w e q) (buffers (new .map) (new .cr3s) last (new .events) (new .questions))
       ≡ answer (puzzleOf text) (buffers (old .map) (old .cr3s) words (old .events) (old .questions))
   unfolding wordsOf
@@ -60,7 +60,7 @@ module _ {text : List ℕ} {old new : Puzzle} {g p w e q : ℕ} (k : Whole text 
       let zeros = length-replicate {A = ℕ} (512 * g) 0 in
       let stores : last ≡ laid (wordsOf z) words =
       s ∙ stored-laid (take (w * 2) (new .pairs)) (replicate (512 * g) 0) words (subst⁻¹ (λ (n : ℕ). WordsBelow n (take (w * 2) (new .pairs))) zeros pairs-below)
-      ∙ ap (λ (n : ℕ). laid (stored (take (w * 2) (new .pairs)) (replicate (512 * n) 0)) words) (sym frames-are) in
+      ∙ ap (λ (n : ℕ). laid (withPairs (take (w * 2) (new .pairs)) (replicate (512 * n) 0)) words) (sym frames-are) in
       ap₂ after (counts-are k)
       (λ i. buffers (kept-laid (k .map) i) (kept-laid (k .cr3s) i) (stores i) (kept-laid (k .events) i) (kept-laid (k .questions) i))
       ∙ sym (ap (λ (m : Got Puzzle). answer m (buffers (old .map) (old .cr3s) words (old .events) (old .questions))) (k .says))

@@ -10,7 +10,7 @@ use Rattle.puzzle.specs.declared.ReadResult.{ReadResult}
 use Rattle.puzzle.specs.declared.ReadResult.the-variants.{Accepted, Refused}
 use Rattle.sections.specs.Sections.{Puzzle, puzzleOf}
 use Rattle.sections.specs.Parts.{Kept}
-use Rattle.puzzle.specs.Buffers.{stored, laid, countsOf, verdictOf}
+use Rattle.puzzle.specs.Buffers.{withPairs, laid, countsOf, verdictOf}
 use Rattle.puzzle.specs.Parts.{WordsBelow, fronts, Whole, SectionsAre}
 use Rattle.sections.proofs.Has.{left}
 
@@ -42,24 +42,24 @@ zeros-all l old n t d =
 
 module _ (l : List ℕ) (n i : ℕ) (h : n * 2 ≤ length l) where
   pub pair-more : (words : List ℕ) → i < n
-      → stored (drop ((i + 1) * 2) (take (n * 2) l)) (set words (getD l (i * 2) 0) (getD l (i * 2 + 1) 0)) ≡ stored (drop (i * 2) (take (n * 2) l)) words
-  unfolding stored
+      → withPairs (drop ((i + 1) * 2) (take (n * 2) l)) (set words (getD l (i * 2) 0) (getD l (i * 2 + 1) 0)) ≡ withPairs (drop (i * 2) (take (n * 2) l)) words
+  unfolding withPairs
   pair-more words k =
       let e : i * 2 + 1 + 1 ≡ (i + 1) * 2 = omega arith in
       let d : drop (i * 2) (take (n * 2) l) ≡ getD l (i * 2) 0 ∷ getD l (i * 2 + 1) 0 ∷ drop ((i + 1) * 2) (take (n * 2) l) =
       left l (n * 2) (i * 2) 0 h (omega arith)
       ∙ ap (λ (m : List ℕ). getD l (i * 2) 0 ∷ m) (left l (n * 2) (i * 2 + 1) 0 h (omega arith) ∙ ap (λ (j : ℕ). getD l (i * 2 + 1) 0 ∷ drop j (take (n * 2) l)) e) in
-      sym (ap (λ (m : List ℕ). stored m words) d)
+      sym (ap (λ (m : List ℕ). withPairs m words) d)
 
-  pub pair-end : (words : List ℕ) → n ≤ i → words ≡ stored (drop (i * 2) (take (n * 2) l)) words
-  unfolding stored
+  pub pair-end : (words : List ℕ) → n ≤ i → words ≡ withPairs (drop (i * 2) (take (n * 2) l)) words
+  unfolding withPairs
   pair-end words k =
       let m = length-take-le (n * 2) l h in
       let e : length (take (n * 2) l) ≤ i * 2 = omega arith in
-      sym (ap (λ (m : List ℕ). stored m words) (drop-of-length-le (take (n * 2) l) e))
+      sym (ap (λ (m : List ℕ). withPairs m words) (drop-of-length-le (take (n * 2) l) e))
 
-pub length-stored : (pairs words : List ℕ) → length (stored pairs words) ≡ length words
-unfolding stored
+pub length-stored : (pairs words : List ℕ) → length (withPairs pairs words) ≡ length words
+unfolding withPairs
 length-stored [] words = refl
 length-stored (w ∷ []) words = refl
 length-stored (w ∷ v ∷ ps) words = length-stored ps (set words w v) ∙ length-set words w v
@@ -69,21 +69,21 @@ below-set w v words ps i h =
     let e : suc i * 2 ≡ suc (suc (i * 2)) = omega arith in
     subst⁻¹ (λ (n : ℕ). getD ps (i * 2) 0 < n) (length-set words w v) (subst (λ (n : ℕ). getD (w ∷ v ∷ ps) n 0 < length words) e h)
 
-stored-append : (pairs words rest : List ℕ) → WordsBelow (length words) pairs → stored pairs (words ++ rest) ≡ stored pairs words ++ rest
-unfolding stored
+stored-append : (pairs words rest : List ℕ) → WordsBelow (length words) pairs → withPairs pairs (words ++ rest) ≡ withPairs pairs words ++ rest
+unfolding withPairs
 stored-append [] words rest b = refl
 stored-append (w ∷ []) words rest b = refl
 stored-append (w ∷ v ∷ ps) words rest b =
     let here : w < length words = b 0 (omega arith) in
-    ap (stored ps) (set-append-left words rest w v here)
+    ap (withPairs ps) (set-append-left words rest w v here)
     ∙ stored-append ps (set words w v) rest (λ i h. below-set w v words ps i (b (suc i) (omega arith)))
 
 -- pairs whose words are among the first n change only these
-pub stored-laid : (pairs zeros old : List ℕ) → WordsBelow (length zeros) pairs → stored pairs (laid zeros old) ≡ laid (stored pairs zeros) old
+pub stored-laid : (pairs zeros old : List ℕ) → WordsBelow (length zeros) pairs → withPairs pairs (laid zeros old) ≡ laid (withPairs pairs zeros) old
 unfolding laid
 stored-laid pairs zeros old b =
     stored-append pairs zeros (drop (length zeros) old) b
-    ∙ ap (λ (n : ℕ). stored pairs zeros ++ drop n old) (sym (length-stored pairs zeros))
+    ∙ ap (λ (n : ℕ). withPairs pairs zeros ++ drop n old) (sym (length-stored pairs zeros))
 
 -- ---- what the sections say of the result
 

@@ -27,14 +27,14 @@ abbrev pub after : ReadResult → Buffers → After
 after r b = record { result = r; buffers = b }
 
 -- word, value, word, value ..: each word becomes its value
-unfoldable pub stored : List ℕ → List ℕ → List ℕ
-stored (word ∷ value ∷ pairs) words = stored pairs (set words word value)
-stored (word ∷ []) words = words
-stored [] words = words
+unfoldable pub withPairs : List ℕ → List ℕ → List ℕ
+withPairs (word ∷ value ∷ pairs) words = withPairs pairs (set words word value)
+withPairs (word ∷ []) words = words
+withPairs [] words = words
 
 -- the guest's 512×G words at the start: "Other words are 0."
 unfoldable pub wordsOf : Puzzle → List ℕ
-wordsOf z = stored (z .pairs) (replicate (frameWords * length (z .map)) 0)
+wordsOf z = withPairs (z .pairs) (replicate (frameWords * length (z .map)) 0)
 
 -- the new elements in front; all later elements stay
 unfoldable pub laid : List ℕ → List ℕ → List ℕ

@@ -8,7 +8,7 @@ ghost use Prim.Native.Nat.{_*_, _≤_};
 ghost use lib.ListN.{length, take, replicate};
 ghost use Rattle.cursor.specs.Text.{Stands};
 ghost use Rattle.sections.specs.Sections.{puzzleOf};
-ghost use Rattle.puzzle.specs.Buffers.{buffers, after, stored, laid, verdictOf, answer, readCall};
+ghost use Rattle.puzzle.specs.Buffers.{buffers, after, withPairs, laid, verdictOf, answer, readCall};
 ghost use Rattle.puzzle.specs.Parts.{lists, Sized, EndIs, SectionsAre, WordsBelow, Lengths, accepts};
 
 // The count of each section, or a refusal number and its line.
@@ -94,7 +94,7 @@ fn clear(words: &mut [u64], n: usize)
 
 fn store_pairs(words: &mut [u64], pairs: &[u64], n: usize)
     requires { ⌜ (n * 2 ≤ length (now pairs)) × WordsBelow (length (now words)) (take (n * 2) (now pairs)) ⌝ }
-    ensures { λ _. ⌜ now (words .exit) ≡ stored (take (n * 2) (now (pairs .entry))) (now (words .entry)) ⌝ }
+    ensures { λ _. ⌜ now (words .exit) ≡ withPairs (take (n * 2) (now (pairs .entry))) (now (words .entry)) ⌝ }
 {
     for i in 0..n {
         let word = pairs[i * 2] as usize;

@@ -4,7 +4,7 @@ use Prim.Native.Nat.{_*_, _≤_}
 use native.Mathlib.Omega.{arith}
 use lib.ListN.{length, take, replicate}
 use borrow.Author.Needs.{needs}
-use Rattle.puzzle.specs.Buffers.{stored}
+use Rattle.puzzle.specs.Buffers.{withPairs}
 use Rattle.puzzle.specs.Parts.{lists, Whole}
 use Rattle.puzzle.proofs.Calls.{not-refused, pairs-below, accepted-answer}
 use Rattle.puzzle.proofs.fill.Statement.{statement}
@@ -33,7 +33,7 @@ store-pairs-requires c κs =
 returns-2 : tie.Need-returns-2
 returns-2 c =
     accepted-answer (whole (c .before .before .before .before .before .before .before .before .before .before)) (c .before .before .before .before .before .before .before .before .before .before .before .before .before .before .before .before .before .before .before .before .before .before .before .before .before .before .before .before .before .before .before .before .before .args .words .now)
-    (c .before .before .store-pairs .ensures ∙ ap (stored (take (c .before .before .before .before .before .before .before .before .before .before .counts2 .given .0 .1 .1 .0 * 2) (c .before .before .before .before .before .before .before .before .before .before .before .before .before .before .before .before .before .before .before .before .before .read-sections .last .1 .1 .1 .0))) (c .before .before .before .before .before .before .before .clear .ensures))
+    (c .before .before .store-pairs .ensures ∙ ap (withPairs (take (c .before .before .before .before .before .before .before .before .before .before .counts2 .given .0 .1 .1 .0 * 2) (c .before .before .before .before .before .before .before .before .before .before .before .before .before .before .before .before .before .before .before .before .before .read-sections .last .1 .1 .1 .0))) (c .before .before .before .before .before .before .before .clear .ensures))
 
 pub fill-spec : {M : Type 1} → statement M
 fill-spec =

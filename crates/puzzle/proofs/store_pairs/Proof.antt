@@ -4,14 +4,14 @@ use Prim.Native.Nat.{_-_, _*_, _≤_, _<_}
 use native.Mathlib.Omega.{arith}
 use lib.ListN.{length, take, drop, getD, length-set}
 use lib.Seq.{getD-take, length-take-le}
-use Rattle.puzzle.specs.Buffers.{stored}
+use Rattle.puzzle.specs.Buffers.{withPairs}
 use Rattle.puzzle.proofs.Fills.{pair-more, pair-end}
 use Rattle.puzzle.proofs.store_pairs.Statement.{statement}
 use Rattle.puzzle.proofs.store_pairs.Tie as tie
 
 abbrev Inv-loop : tie.InvT-loop
 Inv-loop words₀ pairs n i₀ words i =
-    (i ≤ n) × (length words ≡ length words₀) × (stored (drop (i * 2) (take (n * 2) pairs)) words ≡ stored (take (n * 2) pairs) words₀)
+    (i ≤ n) × (length words ≡ length words₀) × (withPairs (drop (i * 2) (take (n * 2) pairs)) words ≡ withPairs (take (n * 2) pairs) words₀)
 
 abbrev μ-loop : tie.MeasureT-loop
 μ-loop words₀ pairs n i₀ words i = n - i
