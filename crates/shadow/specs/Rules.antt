@@ -1,0 +1,111 @@
+-- "State rules", as tests. `lawful` is all of them: first what is asked of each table, then the roots, then each slot.
+use mathlib.Core.Bool.{Bool, true, false, Bool·beq, cond, not, _&&_, _||_}
+use mathlib.Core.List.{List}
+use Prim.Native.Nat.{ℕ, zero, suc, _+_, _-_, _*_, _^_}
+use lib.Dec.{eqb, ltb, leb}
+use Rattle.paging.specs.declared.Origin.{Origin}
+use Rattle.paging.specs.declared.Origin.the-variants.{Of, Nowhere}
+use Rattle.paging.specs.Frame.{host, originOf}
+use Rattle.paging.specs.Layout.{bit, frameOf, rightsOf, compose}
+use Rattle.tables.specs.Numbers.{all, sum, count}
+use Rattle.tables.specs.State.{Machine, Shadow, State, levelOf, shadows, isFree, slotCount, markOf, pageIn, placeIn, rightsIn, tableCount, ownerOf, rootOf, entryCount, entryOf, named, pathTo}
+
+abbrev pub isOf : Origin → Bool
+isOf (Of g) = true
+isOf Nowhere = false
+
+-- some guest frame is mapped to host frame f
+abbrev pub isMapped : List ℕ → ℕ → Bool
+isMapped map f = isOf (originOf map (host f))
+
+module _ (M : Machine) where
+  -- "Shadow entries use the layout above, A always 1 in a present one; … unnamed bits are 0": an entry that is made of its
+  -- own rights and frame, of the D given, and of nothing else
+  abbrev pub isMadeWith : ℕ → ℕ → Bool
+  isMadeWith d e = eqb e (compose (M .tables) (rightsOf (M .tables) e) d (frameOf (M .tables) e))
+
+  -- "at level 1 it is a mapped host frame and D equals RW"
+  unfoldable pub isLeaf : List ℕ → ℕ → Bool
+  isLeaf map e = isMadeWith (bit e 1) e && isMapped map (frameOf (M .tables) e)
+
+  -- "Above level 1 the frame is pool base + table number and D is 0"
+  unfoldable pub isBranch : ℕ → Bool
+  isBranch e = isMadeWith 0 e && ltb (named M e) (tableCount M)
+
+  -- "absent is 0"; "a free table is all zeros"; here for an entry of a table of level l
+  abbrev pub isLaidOut : List ℕ → ℕ → ℕ → Bool
+  isLaidOut map l e = eqb e 0 || cond (eqb l 0) false (cond (eqb l 1) (isLeaf map e) (isBranch e))
+
+  -- "a present entry above level 1 names a table of the same share, one level lower"; here entry e of t
+  abbrev pub namesLower : Shadow → ℕ → ℕ → Bool
+  namesLower s t e =
+      leb (levelOf s t) 1
+      || eqb e 0
+      || eqb (ownerOf M (named M e)) (ownerOf M t) && eqb (levelOf s (named M e) + 1) (levelOf s t)
+
+  -- "The first is its root."
+  abbrev pub isRoot : ℕ → Bool
+  isRoot t = eqb t (rootOf M (ownerOf M t))
+
+  -- how many entries name u
+  unfoldable pub namesOf : Shadow → ℕ → ℕ
+  namesOf s u = sum (tableCount M) (λ t. count (entryCount M) (λ i. eqb (named M (entryOf M s t i)) u))
+
+  -- ---- what is asked of a table
+
+  -- "A record is level (0 free) and guest frame shadowed; a free table is all zeros, record too."
+  -- "roots and only roots have level 4"
+  -- "each other live table is named by exactly one entry"
+  -- "shadowed frames are below G"
+  abbrev pub recordRight : Shadow → ℕ → Bool
+  recordRight s t =
+      leb (levelOf s t) (M .tables .levels)
+      && (not (isFree s t) || eqb (shadows s t .0) 0)
+      && Bool·beq (isRoot t) (eqb (levelOf s t) (M .tables .levels))
+      && (isRoot t || isFree s t || eqb (namesOf s t) 1)
+      && ltb (shadows s t .0) (M .frames)
+
+  abbrev pub entryRight : List ℕ → Shadow → ℕ → ℕ → Bool
+  entryRight map s t i = isLaidOut map (levelOf s t) (entryOf M s t i) && namesLower s t (entryOf M s t i)
+
+  unfoldable pub tableRight : List ℕ → Shadow → ℕ → Bool
+  tableRight map s t = recordRight s t && all (entryCount M) (entryRight map s t)
+
+  -- ---- whole tables
+
+  -- "an entry is whole when it is absent, is a rightly laid out entry of level 1, or names a whole table"
+  abbrev pub entryBy : List ℕ → (ℕ → Bool) → ℕ → ℕ → Bool
+  entryBy map whole l e = eqb e 0 || cond (eqb l 1) (isLeaf map e) (ltb (named M e) (tableCount M) && whole (named M e))
+
+  -- "A table is whole when all its entries are": a table of level l
+  unfoldable pub tableWhole : List ℕ → Shadow → ℕ → ℕ → Bool
+  tableWhole map s zero t = true
+  tableWhole map s (suc l) t = all (entryCount M) (λ i. entryBy map (tableWhole map s l) (suc l) (entryOf M s t i))
+
+  -- an entry of a table of level l
+  unfoldable pub entryWhole : List ℕ → Shadow → ℕ → ℕ → Bool
+  entryWhole map s l e = entryBy map (tableWhole map s (l - 1)) l e
+
+  -- ---- what is asked of a slot
+
+  -- "A partial slot stands on the table that its page reaches from the root, with that path's rights"
+  abbrev pub onItsPath : Shadow → List ℕ → ℕ → ℕ → Bool
+  onItsPath s slots p k =
+      let w = pathTo M s p (pageIn slots p k) (markOf slots p k - 1) in
+      ltb (w .table) (tableCount M) && eqb (placeIn slots p k) (w .table) && eqb (rightsIn slots p k) (w .rights)
+
+  -- "mark (0 empty, 1 complete, level+1 partial)"; "empty is 0, 0, 0"; "a slot's page is below 2^36"
+  -- "a complete one names a frame below G"
+  unfoldable pub slotRight : Shadow → List ℕ → ℕ → ℕ → Bool
+  slotRight s slots p k =
+      ltb (pageIn slots p k) (2 ^ (M .tables .indexBits * M .tables .levels))
+      && cond (eqb (markOf slots p k) 0) (eqb (pageIn slots p k) 0 && eqb (placeIn slots p k) 0 && eqb (rightsIn slots p k) 0)
+      (cond (eqb (markOf slots p k) 1) (ltb (placeIn slots p k) (M .frames))
+      (leb (markOf slots p k) (M .tables .levels + 1) && onItsPath s slots p k))
+
+  -- ---- all of them; "every root is whole"
+  unfoldable pub lawful : List ℕ → State → Bool
+  lawful map s =
+      all (tableCount M) (tableRight map (s .shadow))
+      && all (M .processors) (λ p. tableWhole map (s .shadow) (M .tables .levels) (rootOf M p))
+      && all (M .processors) (λ p. all slotCount (slotRight (s .shadow) (s .slots) p))
