@@ -21,7 +21,7 @@ use Rattle.tables.specs.declared.Spot.{Spot}
 use Rattle.tables.specs.declared.Walked.{Walked}
 use Rattle.tables.specs.declared.Walked.the-variants.{Whole, Fault}
 use Rattle.tables.specs.Numbers.{all, first, each}
-use Rattle.tables.specs.State.{Machine, Shadow, shadowOf, State, stateOf, shadows, withRecord, slotCount, markOf, pageIn, placeIn, rightsIn, withSlot, emptied, tableCount, rootOf, entryOf, withEntry, named, nextEntry, pathTo}
+use Rattle.tables.specs.State.{Machine, Shadow, shadowOf, onPool, onRecords, State, stateOf, shadows, withRecord, slotCount, markOf, pageIn, placeIn, rightsIn, withSlot, emptied, tableCount, rootOf, withEntry, named, nextEntry, pathTo}
 use Rattle.tables.specs.Steps.{flush, emptySlots, walkFrom, emptyShare, freeCount, settle, Settled, build}
 use Rattle.shadow.specs.declared.Answer.{Answer}
 use Rattle.shadow.specs.declared.Answer.the-variants.{Done, Address, Fault as Faulted, Again, NoStep, Refused}
@@ -112,10 +112,10 @@ module _ (M : Machine) where
   unfoldable pub afterInvlpg : ℕ → ℕ → State → Result
   afterInvlpg p a s =
       let page = pageOf (M .tables) a in
-      let t = pathTo M (s .shadow) p page 1 .table in
+      let t = pathTo M (s .shadow .pool) p page 1 .table in
       gives Done
       (stateOf (s .words)
-      (cond (ltb t (tableCount M)) (withEntry M t (index (M .tables) page 1) 0 (s .shadow)) (s .shadow))
+      (cond (ltb t (tableCount M)) (onPool (withEntry M t (index (M .tables) page 1) 0) (s .shadow)) (s .shadow))
       (flush p page (s .slots)))
 
   -- "CR3 write: all tables of p freed, root set up anew, all slots of p emptied."
@@ -123,7 +123,7 @@ module _ (M : Machine) where
   afterCr3 p f s =
       gives Done
       (stateOf (s .words)
-      (withRecord (rootOf M p) (M .tables .levels) (guest f) (emptyShare M p (s .shadow)))
+      (onRecords (withRecord (rootOf M p) (M .tables .levels) (guest f)) (emptyShare M p (s .shadow)))
       (emptySlots p (s .slots)))
 
   -- "Begin: the slot holds a partial walk on the root, rights 7."
@@ -140,7 +140,7 @@ module _ (M : Machine) where
       let mark = markOf (s .slots) p k in
       let page = pageIn (s .slots) p k in
       let w : Path = record { level = mark - 1; table = placeIn (s .slots) p k; rights = rightsIn (s .slots) p k } in
-      let e = nextEntry M (s .shadow) page w in
+      let e = nextEntry M (s .shadow .pool) page w in
       let moved : ℕ → Result = λ place.
       gives Done
       (stateOf (s .words) (s .shadow)
@@ -161,11 +161,11 @@ module _ (M : Machine) where
   -- "the shadow is filled from the root … Then the flush of v"
   unfoldable pub fill : List ℕ → ℕ → ℕ → State → State
   fill map p page s =
-      let cr3 = shadows (s .shadow) (rootOf M p) in
+      let cr3 = shadows (s .shadow .records) (rootOf M p) in
       let below = M .tables .levels - 1 in
       let d = settle M (s .words) page below (rootOf M p) cr3 (s .shadow) in
       let w = d .spot in
-      cond (ltb (freeCount M p (d .shadow)) (w .missing))
+      cond (ltb (freeCount M p (d .shadow .records)) (w .missing))
       (stateOf (s .words)
       (build M map (s .words) p page below (rootOf M p) cr3 (emptyShare M p (d .shadow)))
       (flush p page (emptySlots p (s .slots))))
@@ -191,7 +191,7 @@ module _ (M : Machine) where
   -- "Else the guest tables are walked."
   unfoldable pub afterMiss : List ℕ → ℕ → ℕ → Request → State → Result
   afterMiss map p page q s =
-      let cr3 = shadows (s .shadow) (rootOf M p) in
+      let cr3 = shadows (s .shadow .records) (rootOf M p) in
       let d = walkFrom M page (M .tables .levels) (s .words) cr3 (start (M .tables) cr3) in
       afterWalk map p page q (stateOf (d .words) (s .shadow) (s .slots)) (d .ended)
 
@@ -202,8 +202,8 @@ module _ (M : Machine) where
       let page = pageOf (M .tables) a in
       let q = requestOf (M .tables) r in
       let k = servingSlot (s .slots) p page q in
-      let w = pathTo M (s .shadow) p page 1 in
-      let e = nextEntry M (s .shadow) page w in
+      let w = pathTo M (s .shadow .pool) p page 1 in
+      let e = nextEntry M (s .shadow .pool) page w in
       cond (ltb k slotCount)
       (gives (Address (valueAt (hostOf map (guest (placeIn (s .slots) p k))) a)) s)
       (cond (isPresent e && enough q (meet (w .rights) (rightsOf (M .tables) e)))
@@ -277,8 +277,9 @@ module _ (M : Machine) where
   abbrev pub started : List ℕ → List ℕ → State
   started cr3s words =
       stateOf words
+      (shadowOf (replicate (frameWords * tableCount M) 0)
       (each (M .processors) (λ p. withRecord (rootOf M p) (M .tables .levels) (guest (getD cr3s p 0)))
-      (shadowOf (replicate (frameWords * tableCount M) 0) (replicate (2 * tableCount M) 0)))
+      (replicate (2 * tableCount M) 0)))
       (replicate (24 * M .processors) 0)
 
   unfoldable pub setupRefusal : List ℕ → List ℕ → State → ℕ

@@ -37,19 +37,19 @@ module _ (M : Machine) where
   isLaidOut map l e = eqb e 0 || cond (eqb l 0) false (cond (eqb l 1) (isLeaf map e) (isBranch e))
 
   -- "a present entry above level 1 names a table of the same share, one level lower"; here entry e of t
-  abbrev pub namesLower : Shadow → ℕ → ℕ → Bool
-  namesLower s t e =
-      leb (levelOf s t) 1
+  abbrev pub namesLower : List ℕ → ℕ → ℕ → Bool
+  namesLower records t e =
+      leb (levelOf records t) 1
       || eqb e 0
-      || eqb (ownerOf M (named M e)) (ownerOf M t) && eqb (levelOf s (named M e) + 1) (levelOf s t)
+      || eqb (ownerOf M (named M e)) (ownerOf M t) && eqb (levelOf records (named M e) + 1) (levelOf records t)
 
   -- "The first is its root."
   abbrev pub isRoot : ℕ → Bool
   isRoot t = eqb t (rootOf M (ownerOf M t))
 
   -- how many entries name u
-  unfoldable pub namesOf : Shadow → ℕ → ℕ
-  namesOf s u = sum (tableCount M) (λ t. count (entryCount M) (λ i. eqb (named M (entryOf M s t i)) u))
+  unfoldable pub namesOf : List ℕ → ℕ → ℕ
+  namesOf pool u = sum (tableCount M) (λ t. count (entryCount M) (λ i. eqb (named M (entryOf M pool t i)) u))
 
   -- ---- what is asked of a table
 
@@ -59,14 +59,16 @@ module _ (M : Machine) where
   -- "shadowed frames are below G"
   abbrev pub recordRight : Shadow → ℕ → Bool
   recordRight s t =
-      leb (levelOf s t) (M .tables .levels)
-      && (not (isFree s t) || eqb (shadows s t .0) 0)
-      && Bool·beq (isRoot t) (eqb (levelOf s t) (M .tables .levels))
-      && (isRoot t || isFree s t || eqb (namesOf s t) 1)
-      && ltb (shadows s t .0) (M .frames)
+      leb (levelOf (s .records) t) (M .tables .levels)
+      && (not (isFree (s .records) t) || eqb (shadows (s .records) t .0) 0)
+      && Bool·beq (isRoot t) (eqb (levelOf (s .records) t) (M .tables .levels))
+      && (isRoot t || isFree (s .records) t || eqb (namesOf (s .pool) t) 1)
+      && ltb (shadows (s .records) t .0) (M .frames)
 
   abbrev pub entryRight : List ℕ → Shadow → ℕ → ℕ → Bool
-  entryRight map s t i = isLaidOut map (levelOf s t) (entryOf M s t i) && namesLower s t (entryOf M s t i)
+  entryRight map s t i =
+      let e = entryOf M (s .pool) t i in
+      isLaidOut map (levelOf (s .records) t) e && namesLower (s .records) t e
 
   unfoldable pub tableRight : List ℕ → Shadow → ℕ → Bool
   tableRight map s t = recordRight s t && all (entryCount M) (entryRight map s t)
@@ -78,34 +80,35 @@ module _ (M : Machine) where
   entryBy map whole l e = eqb e 0 || cond (eqb l 1) (isLeaf map e) (ltb (named M e) (tableCount M) && whole (named M e))
 
   -- "A table is whole when all its entries are": a table of level l
-  unfoldable pub tableWhole : List ℕ → Shadow → ℕ → ℕ → Bool
-  tableWhole map s zero t = true
-  tableWhole map s (suc l) t = all (entryCount M) (λ i. entryBy map (tableWhole map s l) (suc l) (entryOf M s t i))
+  unfoldable pub tableWhole : List ℕ → List ℕ → ℕ → ℕ → Bool
+  tableWhole map pool zero t = true
+  tableWhole map pool (suc l) t =
+      all (entryCount M) (λ i. entryBy map (tableWhole map pool l) (suc l) (entryOf M pool t i))
 
   -- an entry of a table of level l
-  unfoldable pub entryWhole : List ℕ → Shadow → ℕ → ℕ → Bool
-  entryWhole map s l e = entryBy map (tableWhole map s (l - 1)) l e
+  unfoldable pub entryWhole : List ℕ → List ℕ → ℕ → ℕ → Bool
+  entryWhole map pool l e = entryBy map (tableWhole map pool (l - 1)) l e
 
   -- ---- what is asked of a slot
 
   -- "A partial slot stands on the table that its page reaches from the root, with that path's rights"
-  abbrev pub onItsPath : Shadow → List ℕ → ℕ → ℕ → Bool
-  onItsPath s slots p k =
-      let w = pathTo M s p (pageIn slots p k) (markOf slots p k - 1) in
+  abbrev pub onItsPath : List ℕ → List ℕ → ℕ → ℕ → Bool
+  onItsPath pool slots p k =
+      let w = pathTo M pool p (pageIn slots p k) (markOf slots p k - 1) in
       ltb (w .table) (tableCount M) && eqb (placeIn slots p k) (w .table) && eqb (rightsIn slots p k) (w .rights)
 
   -- "mark (0 empty, 1 complete, level+1 partial)"; "empty is 0, 0, 0"; "a slot's page is below 2^36"
   -- "a complete one names a frame below G"
-  unfoldable pub slotRight : Shadow → List ℕ → ℕ → ℕ → Bool
-  slotRight s slots p k =
+  unfoldable pub slotRight : List ℕ → List ℕ → ℕ → ℕ → Bool
+  slotRight pool slots p k =
       ltb (pageIn slots p k) (2 ^ (M .tables .indexBits * M .tables .levels))
       && cond (eqb (markOf slots p k) 0) (eqb (pageIn slots p k) 0 && eqb (placeIn slots p k) 0 && eqb (rightsIn slots p k) 0)
       (cond (eqb (markOf slots p k) 1) (ltb (placeIn slots p k) (M .frames))
-      (leb (markOf slots p k) (M .tables .levels + 1) && onItsPath s slots p k))
+      (leb (markOf slots p k) (M .tables .levels + 1) && onItsPath pool slots p k))
 
   -- ---- all of them; "every root is whole"
   unfoldable pub lawful : List ℕ → State → Bool
   lawful map s =
       all (tableCount M) (tableRight map (s .shadow))
-      && all (M .processors) (λ p. tableWhole map (s .shadow) (M .tables .levels) (rootOf M p))
-      && all (M .processors) (λ p. all slotCount (slotRight (s .shadow) (s .slots) p))
+      && all (M .processors) (λ p. tableWhole map (s .shadow .pool) (M .tables .levels) (rootOf M p))
+      && all (M .processors) (λ p. all slotCount (slotRight (s .shadow .pool) (s .slots) p))

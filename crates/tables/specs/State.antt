@@ -1,9 +1,10 @@
 -- "Shadow state", first paragraph: what a machine is, what its buffers hold, and where each number stands in them.
+use mathlib.Core.Path.{_≡_}
 use mathlib.Core.Bool.{Bool, cond, _&&_}
 use mathlib.Core.List.{List}
-use Prim.Native.Nat.{ℕ, zero, suc, _+_, _-_, _*_, _/_, _%_, _^_}
+use Prim.Native.Nat.{ℕ, zero, suc, _+_, _-_, _*_, _/_, _%_, _^_, _≤_, _<_}
 use lib.Dec.{eqb, ltb, leb}
-use lib.ListN.{getD, set}
+use lib.ListN.{length, getD, set}
 use Rattle.paging.specs.declared.Guest.{Guest}
 use Rattle.paging.specs.Frame.{guest}
 use Rattle.paging.specs.Layout.{Layout, tables64, get, put, index, frameOf, rightsOf, isPresent}
@@ -30,6 +31,12 @@ pub record Shadow : Type 0 where
 abbrev pub shadowOf : List ℕ → List ℕ → Shadow
 shadowOf p r = record { pool = p; records = r }
 
+abbrev pub onPool : (List ℕ → List ℕ) → Shadow → Shadow
+onPool f s = shadowOf (f (s .pool)) (s .records)
+
+abbrev pub onRecords : (List ℕ → List ℕ) → Shadow → Shadow
+onRecords f s = shadowOf (s .pool) (f (s .records))
+
 -- everything that an event may change
 pub record State : Type 0 where
   pub words : List ℕ
@@ -40,17 +47,17 @@ abbrev pub stateOf : List ℕ → Shadow → List ℕ → State
 stateOf w h l = record { words = w; shadow = h; slots = l }
 
 -- "A record is level (0 free) and guest frame shadowed"
-abbrev pub levelOf : Shadow → ℕ → ℕ
-levelOf s t = getD (s .records) (2 * t) 0
+abbrev pub levelOf : List ℕ → ℕ → ℕ
+levelOf records t = getD records (2 * t) 0
 
-abbrev pub shadows : Shadow → ℕ → Guest
-shadows s t = guest (getD (s .records) (2 * t + 1) 0)
+abbrev pub shadows : List ℕ → ℕ → Guest
+shadows records t = guest (getD records (2 * t + 1) 0)
 
-abbrev pub withRecord : ℕ → ℕ → Guest → Shadow → Shadow
-withRecord t level g s = shadowOf (s .pool) (set (set (s .records) (2 * t) level) (2 * t + 1) (g .0))
+abbrev pub withRecord : ℕ → ℕ → Guest → List ℕ → List ℕ
+withRecord t level g records = set (set records (2 * t) level) (2 * t + 1) (g .0)
 
-abbrev pub isFree : Shadow → ℕ → Bool
-isFree s t = eqb (levelOf s t) 0
+abbrev pub isFree : List ℕ → ℕ → Bool
+isFree records t = eqb (levelOf records t) 0
 
 -- "8 hardware TLB slots"
 abbrev pub slotCount : ℕ
@@ -98,11 +105,11 @@ module _ (M : Machine) where
   abbrev pub entryCount : ℕ
   entryCount = 2 ^ M .tables .indexBits
 
-  abbrev pub entryOf : Shadow → ℕ → ℕ → ℕ
-  entryOf s t i = get (M .tables) (s .pool) t i
+  abbrev pub entryOf : List ℕ → ℕ → ℕ → ℕ
+  entryOf pool t i = get (M .tables) pool t i
 
-  abbrev pub withEntry : ℕ → ℕ → ℕ → Shadow → Shadow
-  withEntry t i e s = shadowOf (put (M .tables) (s .pool) t i e) (s .records)
+  abbrev pub withEntry : ℕ → ℕ → ℕ → List ℕ → List ℕ
+  withEntry t i e pool = put (M .tables) pool t i e
 
   -- "the frame is pool base + table number": the table that a present entry names. P×S, the number of tables, is no
   -- table: it stands for none.
@@ -116,16 +123,29 @@ module _ (M : Machine) where
   abbrev pub top : ℕ → Path
   top p = record { level = M .tables .levels; table = rootOf p; rights = 7 }
 
-  abbrev pub nextEntry : Shadow → ℕ → Path → ℕ
-  nextEntry s page w = entryOf s (w .table) (index (M .tables) page (w .level))
+  abbrev pub nextEntry : List ℕ → ℕ → Path → ℕ
+  nextEntry pool page w = entryOf pool (w .table) (index (M .tables) page (w .level))
 
   abbrev pub down : Path → ℕ → Path
   down w e = record { level = w .level - 1; table = named e; rights = meet (w .rights) (rightsOf (M .tables) e) }
 
-  unfoldable pub descend : Shadow → ℕ → ℕ → Path → Path
-  descend s page zero w = w
-  descend s page (suc n) w = descend s page n (down w (nextEntry s page w))
+  unfoldable pub descend : List ℕ → ℕ → ℕ → Path → Path
+  descend pool page zero w = w
+  descend pool page (suc n) w = descend pool page n (down w (nextEntry pool page w))
 
   -- the path of a page from p's root to level l
-  abbrev pub pathTo : Shadow → ℕ → ℕ → ℕ → Path
-  pathTo s p page l = descend s page (M .tables .levels - l) (top p)
+  abbrev pub pathTo : List ℕ → ℕ → ℕ → ℕ → Path
+  pathTo pool p page l = descend pool page (M .tables .levels - l) (top p)
+
+-- Sizes that the event call has found in range. The functions below it ask for no more.
+pub record Sized (z : Sizes) : Type 0 where
+  pub frames : z .frames ≤ 256
+  pub processors : z .processors ≤ 4
+  pub some : 0 < z .share
+  pub share : z .share ≤ 16
+  pub pool : z .base + z .processors * z .share ≤ 2 ^ 40
+
+-- with the records of all tables
+pub record Room (z : Sizes) (records : List ℕ) : Type 0 where
+  pub sized : Sized z
+  pub pairs : length records ≡ 2 * tableCount (machine64 z)

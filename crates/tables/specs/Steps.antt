@@ -14,7 +14,7 @@ use Rattle.tables.specs.declared.Spot.{Spot}
 use Rattle.tables.specs.declared.Walked.{Walked}
 use Rattle.tables.specs.declared.Walked.the-variants.{Whole, Fault}
 use Rattle.tables.specs.Numbers.{each, first, count}
-use Rattle.tables.specs.State.{Machine, Shadow, shadowOf, levelOf, shadows, withRecord, isFree, slotCount, markOf, pageIn, emptied, tableCount, rootOf, owns, entryCount, entryOf, withEntry, named}
+use Rattle.tables.specs.State.{Machine, Shadow, shadowOf, onPool, onRecords, shadows, withRecord, isFree, slotCount, markOf, pageIn, emptied, tableCount, rootOf, owns, entryCount, entryOf, withEntry, named}
 
 -- "the flush of v: p's partial slots and its complete slots of page v are emptied"
 abbrev pub goesWith : List ℕ → ℕ → ℕ → ℕ → Bool
@@ -59,43 +59,46 @@ module _ (M : Machine) where
   -- an entry is cut: the table that it names is freed, and it becomes 0
   abbrev pub cutBy : (ℕ → Shadow → Shadow) → ℕ → ℕ → Shadow → Shadow
   cutBy free t i s =
-      let u = named M (entryOf M s t i) in
-      withEntry M t i 0 (cond (ltb u (tableCount M)) (free u s) s)
+      let u = named M (entryOf M (s .pool) t i) in
+      onPool (withEntry M t i 0) (cond (ltb u (tableCount M)) (free u s) s)
 
   -- "freed and zeroed, level by level": a table with l levels from it down; "a free table is all zeros, record too"
   unfoldable pub freeTable : ℕ → ℕ → Shadow → Shadow
   freeTable zero t s = s
-  freeTable (suc l) t s = withRecord t 0 (guest 0) (each (entryCount M) (cutBy (freeTable l) t) s)
+  freeTable (suc l) t s = onRecords (withRecord t 0 (guest 0)) (each (entryCount M) (cutBy (freeTable l) t) s)
 
   -- entry i of t, which names a table of level l
   abbrev pub cut : ℕ → ℕ → ℕ → Shadow → Shadow
   cut l t i s = cutBy (freeTable l) t i s
 
   -- "all but the root are freed, the root is zeroed": the root keeps its record
-  abbrev pub zeroed : ℕ → Shadow → Shadow
-  zeroed t s = each (entryCount M) (λ i. withEntry M t i 0) s
+  unfoldable pub zeroed : ℕ → List ℕ → List ℕ
+  zeroed t pool = each (entryCount M) (λ i. withEntry M t i 0) pool
 
   abbrev pub emptyTable : ℕ → ℕ → Shadow → Shadow
-  emptyTable p t s = cond (eqb t (rootOf M p)) (zeroed t s) (withRecord t 0 (guest 0) (zeroed t s))
+  emptyTable p t s =
+      let x = onPool (zeroed t) s in
+      cond (eqb t (rootOf M p)) x (onRecords (withRecord t 0 (guest 0)) x)
 
   unfoldable pub emptyShare : ℕ → Shadow → Shadow
   emptyShare p s = each (tableCount M) (λ t x. cond (owns M p t) (emptyTable p t x) x) s
 
   -- ---- taking
 
-  abbrev pub mayTake : ℕ → Shadow → ℕ → Bool
-  mayTake p s t = owns M p t && isFree s t
+  abbrev pub mayTake : ℕ → List ℕ → ℕ → Bool
+  mayTake p records t = owns M p t && isFree records t
 
-  unfoldable pub freeCount : ℕ → Shadow → ℕ
-  freeCount p s = count (tableCount M) (mayTake p s)
+  unfoldable pub freeCount : ℕ → List ℕ → ℕ
+  freeCount p records = count (tableCount M) (mayTake p records)
 
   -- "lowest free number first"
-  unfoldable pub taken : ℕ → Shadow → ℕ
-  taken p s = first (tableCount M) (mayTake p s)
+  unfoldable pub taken : ℕ → List ℕ → ℕ
+  taken p records = first (tableCount M) (mayTake p records)
 
   -- entry i of t names u, with the guest entry's own rights r; u has a level and shadows a frame
   abbrev pub hang : ℕ → ℕ → ℕ → ℕ → Guest → ℕ → Shadow → Shadow
-  hang t i u level g r s = withEntry M t i (compose (M .tables) r 0 (M .base + u)) (withRecord u level g s)
+  hang t i u level g r s =
+      shadowOf (withEntry M t i (compose (M .tables) r 0 (M .base + u)) (s .pool)) (withRecord u level g (s .records))
 
   -- "The level 1 entry is written with the guest's rights, W only if D is now set." "D equals RW"
   unfoldable pub leafOf : List ℕ → ℕ → ℕ
@@ -122,11 +125,11 @@ module _ (M : Machine) where
   guestEntry words page l g = get (M .tables) words (g .0) (index (M .tables) page l)
 
   -- "differs from the guest's in rights or in the frame its table shadows"
-  abbrev pub agrees : Shadow → ℕ → ℕ → Bool
-  agrees s h e =
+  abbrev pub agrees : List ℕ → ℕ → ℕ → Bool
+  agrees records h e =
       ltb (named M h) (tableCount M)
       && eqb (rightsOf (M .tables) h) (rightsOf (M .tables) e)
-      && eqb (shadows s (named M h) .0) (frameOf (M .tables) e)
+      && eqb (shadows records (named M h) .0) (frameOf (M .tables) e)
 
   -- "the shadow is filled from the root": down from table t, which has n tables below it and so the level n + 1, as long
   -- as the entries agree with the guest's; "the subtree below" the first that does not "is freed and zeroed"
@@ -134,9 +137,9 @@ module _ (M : Machine) where
   settle words page zero t g s = settledAt (spot 0 t g) s
   settle words page (suc n) t g s =
       let i = index (M .tables) page (n + 2) in
-      let h = entryOf M s t i in
+      let h = entryOf M (s .pool) t i in
       let e = guestEntry words page (n + 2) g in
-      cond (agrees s h e)
+      cond (agrees (s .records) h e)
       (settle words page n (named M h) (guest (frameOf (M .tables) e)) s)
       (settledAt (spot (suc n) t g) (cut (suc n) t i s))
 
@@ -144,9 +147,9 @@ module _ (M : Machine) where
   -- the level 1 entry
   unfoldable pub build : List ℕ → List ℕ → ℕ → ℕ → ℕ → ℕ → Guest → Shadow → Shadow
   build map words p page zero t g s =
-      withEntry M t (index (M .tables) page 1) (leafOf map (guestEntry words page 1 g)) s
+      onPool (withEntry M t (index (M .tables) page 1) (leafOf map (guestEntry words page 1 g))) s
   build map words p page (suc n) t g s =
       let e = guestEntry words page (n + 2) g in
-      let u = taken p s in
+      let u = taken p (s .records) in
       build map words p page n u (guest (frameOf (M .tables) e))
       (hang t (index (M .tables) page (n + 2)) u (suc n) (guest (frameOf (M .tables) e)) (rightsOf (M .tables) e) s)
