@@ -1,5 +1,17 @@
-// The shadow tables of all processors, their records and slots: what they hold, and the steps that events are made of.
+// The shadow tables of all processors: what an entry and a record say, and the steps that events are made of.
+ghost use mathlib.Core.Path.{_≡_};
+ghost use mathlib.Core.Bool.{_&&_};
+ghost use Prim.Native.Nat.{ℕ, _+_, _-_, _*_, _^_, _<_, _≤_};
+ghost use lib.ListN.{length, getD};
+ghost use lib.Dec.{eqb};
+ghost use Rattle.paging.specs.Frame.{hostOf};
+ghost use Rattle.paging.specs.Layout.{tables64, get, put, index, frameOf, rightsOf};
+ghost use Rattle.paging.specs.Walk.{meet, start};
+ghost use Rattle.tables.specs.State.{Sized, Room, machine64, shadowOf, levelOf, shadows, withRecord, tableCount, ownerOf, rootOf, owns, named, down, pathTo};
+ghost use Rattle.tables.specs.Steps.{freeTable, cut, zeroed, emptyTable, emptyShare, mayTake, freeCount, taken, hang, leafOf, walkFrom, trod, guestEntry, agrees, settle, settledAt, build};
 use paging::Guest;
+use paging::Host;
+use paging::Step;
 use paging::Walk;
 
 // "G frames", "P processors", "a share of S shadow tables", and the pool base.
@@ -28,4 +40,129 @@ pub struct Spot {
 pub enum Walked {
     Whole(Guest, Walk),
     Fault(u64),
+}
+
+// ---- entries, records, owners
+
+// Entry i of frame or table f; past the end it is absent.
+pub fn entry_at(words: &[u64], f: u64, i: usize) -> u64
+    requires { ⌜ (f < 2 ^ 40) × (i < 512) ⌝ }
+    ensures { λ r. ⌜ r ≡ get tables64 (now (words .entry)) f i ⌝ }
+{
+    let at = 512 * (f as usize) + i;
+    if at < words.len() { words[at] } else { 0 }
+}
+
+pub fn write_entry(words: &mut [u64], f: u64, i: usize, e: u64)
+    requires { ⌜ (f < 2 ^ 40) × (i < 512) ⌝ }
+    ensures { λ _. ⌜ now (words .exit) ≡ put tables64 (now (words .entry)) f i e ⌝ }
+{
+    let at = 512 * (f as usize) + i;
+    if at < words.len() {
+        words[at] = e;
+    }
+}
+
+pub fn level_of(records: &[u64], t: u64) -> u64
+    requires { ⌜ t ≤ 64 ⌝ }
+    ensures { λ r. ⌜ r ≡ levelOf (now (records .entry)) t ⌝ }
+{
+    let at = 2 * (t as usize);
+    if at < records.len() { records[at] } else { 0 }
+}
+
+pub fn shadowed_by(records: &[u64], t: u64) -> Guest
+    requires { ⌜ t ≤ 64 ⌝ }
+    ensures { λ r. ⌜ r ≡ shadows (now (records .entry)) t ⌝ }
+{
+    let at = 2 * (t as usize) + 1;
+    if at < records.len() {
+        Guest(records[at])
+    } else {
+        Guest(0)
+    }
+}
+
+pub fn set_record(records: &mut [u64], t: u64, level: u64, g: Guest)
+    requires { ⌜ (t ≤ 64) × (2 * t + 2 ≤ length (now records)) ⌝ }
+    ensures { λ _. ⌜ now (records .exit) ≡ withRecord t level g (now (records .entry)) ⌝ }
+{
+    let at = 2 * (t as usize);
+    records[at] = level;
+    records[at + 1] = g.0;
+}
+
+pub fn table_count(z: Sizes) -> u64
+    requires { ⌜ Sized z ⌝ }
+    ensures { λ r. ⌜ r ≡ tableCount (machine64 z) ⌝ }
+{
+    z.processors * z.share
+}
+
+pub fn owner_of(z: Sizes, t: u64) -> u64
+    requires { ⌜ Sized z ⌝ }
+    ensures { λ r. ⌜ r ≡ ownerOf (machine64 z) t ⌝ }
+{
+    t / z.share
+}
+
+pub fn root_of(z: Sizes, p: u64) -> u64
+    requires { ⌜ Sized z × (p < z .processors) ⌝ }
+    ensures { λ r. ⌜ r ≡ rootOf (machine64 z) p ⌝ }
+{
+    p * z.share
+}
+
+// The table that an entry names; the number of tables if it names none.
+pub fn named_by(z: Sizes, e: u64) -> u64
+    requires { ⌜ Sized z ⌝ }
+    ensures { λ r. ⌜ r ≡ named (machine64 z) e ⌝ }
+{
+    let n = table_count(z);
+    if !paging::present(e) {
+        return n;
+    }
+    let f = paging::frame_of(e);
+    if f < z.base {
+        return n;
+    }
+    if f - z.base < n { f - z.base } else { n }
+}
+
+pub fn shared_rights(a: u64, b: u64) -> u64
+    requires { ⌜ (a < 8) × (b < 8) ⌝ }
+    ensures { λ r. ⌜ r ≡ meet a b ⌝ }
+{
+    a & b
+}
+
+// ---- paths
+
+pub fn step_down(z: Sizes, w: Path, e: u64) -> Path
+    requires { ⌜ Sized z × (1 ≤ w .level) × (w .rights < 8) ⌝ }
+    ensures { λ r. ⌜ r ≡ down (machine64 z) w e ⌝ }
+{
+    Path {
+        level: w.level - 1,
+        table: named_by(z, e),
+        rights: shared_rights(w.rights, paging::rights_of(e)),
+    }
+}
+
+// The path of a page from p's root to a level.
+pub fn path_to(pool: &[u64], z: Sizes, p: u64, page: u64, level: u64) -> Path
+    requires { ⌜ Sized z × (p < z .processors) × (level ≤ 4) ⌝ }
+    ensures { λ r. ⌜ r ≡ pathTo (machine64 z) (now (pool .entry)) p page level ⌝ }
+{
+    let mut w = Path {
+        level: 4,
+        table: root_of(z, p),
+        rights: 7,
+    };
+    while w.level > level {
+        let i = paging::index_of(page, w.level);
+        let e = entry_at(pool, w.table, i);
+        w = step_down(z, w, e);
+    }
+    w
 }
