@@ -1,2 +1,4 @@
 pub mod Names
 pub mod Paths
+pub mod Counts
+pub mod Frees

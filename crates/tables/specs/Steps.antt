@@ -1,7 +1,7 @@
 -- The few steps that all events are made of. Each is total: where an index or a table is none, it changes nothing.
 use mathlib.Core.Bool.{Bool, cond, _&&_, _||_}
 use mathlib.Core.List.{List}
-use Prim.Native.Nat.{ℕ, zero, suc, _+_, _-_, _*_}
+use Prim.Native.Nat.{ℕ, zero, suc, _+_, _^_}
 use lib.Dec.{eqb, ltb}
 use Rattle.paging.specs.declared.Guest.{Guest}
 use Rattle.paging.specs.declared.Walk.{Walk}
@@ -53,6 +53,10 @@ spot m t g = record { missing = m; table = t; frame = g }
 abbrev pub settledAt : Spot → Shadow → Settled
 settledAt w s = record { spot = w; shadow = s }
 
+-- all entries of a table become 0
+unfoldable pub zeroed : Layout → ℕ → List ℕ → List ℕ
+zeroed Y t pool = each (2 ^ Y .indexBits) (λ i l. put Y l t i 0) pool
+
 module _ (M : Machine) where
   -- ---- freeing
 
@@ -72,16 +76,16 @@ module _ (M : Machine) where
   cut l t i s = cutBy (freeTable l) t i s
 
   -- "all but the root are freed, the root is zeroed": the root keeps its record
-  unfoldable pub zeroed : ℕ → List ℕ → List ℕ
-  zeroed t pool = each (entryCount M) (λ i. withEntry M t i 0) pool
-
   abbrev pub emptyTable : ℕ → ℕ → Shadow → Shadow
   emptyTable p t s =
-      let x = onPool (zeroed t) s in
+      let x = onPool (zeroed (M .tables) t) s in
       cond (eqb t (rootOf M p)) x (onRecords (withRecord t 0 (guest 0)) x)
 
+  abbrev pub emptyOwn : ℕ → ℕ → Shadow → Shadow
+  emptyOwn p t s = cond (owns M p t) (emptyTable p t s) s
+
   unfoldable pub emptyShare : ℕ → Shadow → Shadow
-  emptyShare p s = each (tableCount M) (λ t x. cond (owns M p t) (emptyTable p t x) x) s
+  emptyShare p s = each (tableCount M) (emptyOwn p) s
 
   -- ---- taking
 

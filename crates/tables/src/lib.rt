@@ -8,7 +8,7 @@ ghost use Rattle.paging.specs.Frame.{hostOf};
 ghost use Rattle.paging.specs.Layout.{tables64, get, put, index, frameOf, rightsOf};
 ghost use Rattle.paging.specs.Walk.{meet, start};
 ghost use Rattle.tables.specs.State.{Sized, Room, machine64, shadowOf, levelOf, shadows, withRecord, tableCount, ownerOf, rootOf, owns, named, down, pathTo};
-ghost use Rattle.tables.specs.Steps.{freeTable, cut, zeroed, emptyTable, emptyShare, mayTake, freeCount, taken, hang, leafOf, walkFrom, trod, guestEntry, agrees, settle, settledAt, build};
+ghost use Rattle.tables.specs.Steps.{freeTable, cut, zeroed, emptyOwn, emptyShare, mayTake, freeCount, taken, hang, leafOf, walkFrom, trod, guestEntry, agrees, settle, settledAt, build};
 use paging::Guest;
 use paging::Host;
 use paging::Step;
@@ -165,4 +165,123 @@ pub fn path_to(pool: &[u64], z: Sizes, p: u64, page: u64, level: u64) -> Path
         w = step_down(z, w, e);
     }
     w
+}
+
+// ---- freeing
+
+// Frees table t of the given level, and every table below it.
+pub fn free_table(pool: &mut [u64], records: &mut [u64], z: Sizes, t: u64, level: u64)
+    requires { ⌜ Room z (now records) ⌝ }
+    requires { ⌜ t < tableCount (machine64 z) ⌝ }
+    ensures { λ _. ⌜ shadowOf (now (pool .exit)) (now (records .exit)) ≡ freeTable (machine64 z) level t (shadowOf (now (pool .entry)) (now (records .entry))) ⌝ }
+{
+    if level == 0 {
+        return;
+    }
+    let n = table_count(z);
+    for i in 0..512usize {
+        let u = named_by(z, entry_at(pool, t, i));
+        if u < n {
+            free_table(pool, records, z, u, level - 1);
+        }
+        write_entry(pool, t, i, 0);
+    }
+    set_record(records, t, 0, Guest(0));
+}
+
+// Frees the table of the given level that entry i of t names, and clears the entry.
+pub fn cut_entry(pool: &mut [u64], records: &mut [u64], z: Sizes, level: u64, t: u64, i: usize)
+    requires { ⌜ Room z (now records) ⌝ }
+    requires { ⌜ (t < tableCount (machine64 z)) × (i < 512) ⌝ }
+    ensures { λ _. ⌜ shadowOf (now (pool .exit)) (now (records .exit)) ≡ cut (machine64 z) level t i (shadowOf (now (pool .entry)) (now (records .entry))) ⌝ }
+{
+    let u = named_by(z, entry_at(pool, t, i));
+    if u < table_count(z) {
+        free_table(pool, records, z, u, level);
+        write_entry(pool, t, i, 0);
+    } else {
+        write_entry(pool, t, i, 0);
+    }
+}
+
+fn zero_table(pool: &mut [u64], t: u64)
+    requires { ⌜ t ≤ 64 ⌝ }
+    ensures { λ _. ⌜ now (pool .exit) ≡ zeroed tables64 t (now (pool .entry)) ⌝ }
+{
+    for i in 0..512usize {
+        write_entry(pool, t, i, 0);
+    }
+}
+
+// Table t, if it is one of p's: zeroed, and freed unless it is the root.
+fn empty_table(pool: &mut [u64], records: &mut [u64], z: Sizes, p: u64, t: u64)
+    requires { ⌜ Room z (now records) ⌝ }
+    requires { ⌜ (p < z .processors) × (t < tableCount (machine64 z)) ⌝ }
+    ensures { λ _. ⌜ shadowOf (now (pool .exit)) (now (records .exit)) ≡ emptyOwn (machine64 z) p t (shadowOf (now (pool .entry)) (now (records .entry))) ⌝ }
+{
+    if owner_of(z, t) != p {
+        return;
+    }
+    zero_table(pool, t);
+    if t == root_of(z, p) {
+        return;
+    }
+    set_record(records, t, 0, Guest(0));
+}
+
+pub fn empty_share(pool: &mut [u64], records: &mut [u64], z: Sizes, p: u64)
+    requires { ⌜ Room z (now records) ⌝ }
+    requires { ⌜ p < z .processors ⌝ }
+    ensures { λ _. ⌜ shadowOf (now (pool .exit)) (now (records .exit)) ≡ emptyShare (machine64 z) p (shadowOf (now (pool .entry)) (now (records .entry))) ⌝ }
+{
+    let n = table_count(z);
+    let mut t = 0;
+    while t < n {
+        empty_table(pool, records, z, p, t);
+        t += 1;
+    }
+}
+
+// ---- taking
+
+fn may_take(records: &[u64], z: Sizes, p: u64, t: u64) -> bool
+    requires { ⌜ Sized z × (t ≤ 64) ⌝ }
+    ensures { λ r. ⌜ r ≡ mayTake (machine64 z) p (now (records .entry)) t ⌝ }
+{
+    if owner_of(z, t) != p {
+        return false;
+    }
+    level_of(records, t) == 0
+}
+
+pub fn count_free(records: &[u64], z: Sizes, p: u64) -> u64
+    requires { ⌜ Sized z ⌝ }
+    ensures { λ r. ⌜ r ≡ freeCount (machine64 z) p (now (records .entry)) ⌝ }
+{
+    let n = table_count(z);
+    let mut free = 0;
+    let mut t = 0;
+    while t < n {
+        if may_take(records, z, p, t) {
+            free += 1;
+        }
+        t += 1;
+    }
+    free
+}
+
+// The table that p takes next: its lowest free one.
+pub fn next_free(records: &[u64], z: Sizes, p: u64) -> u64
+    requires { ⌜ Sized z ⌝ }
+    ensures { λ r. ⌜ r ≡ taken (machine64 z) p (now (records .entry)) ⌝ }
+{
+    let n = table_count(z);
+    let mut t = 0;
+    while t < n {
+        if may_take(records, z, p, t) {
+            return t;
+        }
+        t += 1;
+    }
+    n
 }
