@@ -11,7 +11,7 @@ use Rattle.paging.specs.declared.Origin.the-variants.{Of, Nowhere}
 use Rattle.paging.specs.declared.Request.{Request}
 use Rattle.paging.specs.Frame.{guest, host, hostOf, originOf}
 use Rattle.paging.specs.Layout.{Layout, frameWords, bit, get, put, index, pageOf, frameOf, rightsOf, isPresent, markD}
-use Rattle.paging.specs.Walk.{meet, start}
+use Rattle.paging.specs.Walk.{meet}
 use Rattle.paging.specs.Request.{requestOf, enough}
 use Rattle.rules.specs.declared.Event.{Event}
 use Rattle.rules.specs.Refusal.{Test, test, refusal}
@@ -22,7 +22,7 @@ use Rattle.tables.specs.declared.Walked.{Walked}
 use Rattle.tables.specs.declared.Walked.the-variants.{Whole, Fault}
 use Rattle.tables.specs.Numbers.{all, first, each}
 use Rattle.tables.specs.State.{Machine, Shadow, shadowOf, onPool, onRecords, State, stateOf, shadows, withRecord, slotCount, markOf, pageIn, placeIn, rightsIn, withSlot, emptied, tableCount, rootOf, withEntry, named, nextEntry, pathTo}
-use Rattle.tables.specs.Steps.{flush, emptySlots, walkFrom, emptyShare, freeCount, settle, Settled, build}
+use Rattle.tables.specs.Steps.{flush, emptySlots, walkGuest, emptyShare, freeCount, settle, Settled, build}
 use Rattle.shadow.specs.declared.Answer.{Answer}
 use Rattle.shadow.specs.declared.Answer.the-variants.{Done, Address, Fault as Faulted, Again, NoStep, Refused}
 use Rattle.shadow.specs.Rules.{lawful}
@@ -192,7 +192,7 @@ module _ (M : Machine) where
   unfoldable pub afterMiss : List ℕ → ℕ → ℕ → Request → State → Result
   afterMiss map p page q s =
       let cr3 = shadows (s .shadow .records) (rootOf M p) in
-      let d = walkFrom M page (M .tables .levels) (s .words) cr3 (start (M .tables) cr3) in
+      let d = walkGuest (M .tables) (M .frames) page (s .words) cr3 in
       afterWalk map p page q (stateOf (d .words) (s .shadow) (s .slots)) (d .ended)
 
   -- "Access: the lowest slot with a complete walk of the page and enough rights answers; else a present shadow path with

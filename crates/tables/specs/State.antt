@@ -11,6 +11,7 @@ use Rattle.paging.specs.Layout.{Layout, tables64, get, put, index, frameOf, rig
 use Rattle.paging.specs.Walk.{meet}
 use Rattle.tables.specs.declared.Sizes.{Sizes}
 use Rattle.tables.specs.declared.Path.{Path}
+use Rattle.tables.specs.declared.Spot.{Spot}
 
 -- What never changes: tables of one layout, "G frames", "P processors", "a share of S shadow tables", the pool base.
 pub record Machine : Type 0 where
@@ -149,3 +150,9 @@ pub record Sized (z : Sizes) : Type 0 where
 pub record Room (z : Sizes) (records : List ℕ) : Type 0 where
   pub sized : Sized z
   pub pairs : length records ≡ 2 * tableCount (machine64 z)
+
+-- a fill stands on one of the tables
+pub record Spotted (z : Sizes) (w : Spot) : Type 0 where
+  pub missing : w .missing ≤ 3
+  pub table : w .table < tableCount (machine64 z)
+  pub frame : w .frame .0 < 2 ^ 40

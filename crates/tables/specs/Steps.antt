@@ -9,7 +9,7 @@ use Rattle.paging.specs.declared.Step.{Step}
 use Rattle.paging.specs.declared.Step.the-variants.{On, Absent, Beyond, Complete}
 use Rattle.paging.specs.Frame.{guest, hostOf}
 use Rattle.paging.specs.Layout.{Layout, bit, get, put, index, frameOf, rightsOf, compose, markA, markD}
-use Rattle.paging.specs.Walk.{meet, step}
+use Rattle.paging.specs.Walk.{meet, start, step}
 use Rattle.tables.specs.declared.Spot.{Spot}
 use Rattle.tables.specs.declared.Walked.{Walked}
 use Rattle.tables.specs.declared.Walked.the-variants.{Whole, Fault}
@@ -52,6 +52,30 @@ spot m t g = record { missing = m; table = t; frame = g }
 
 abbrev pub settledAt : Spot → Shadow → Settled
 settledAt w s = record { spot = w; shadow = s }
+
+-- ---- walking the guest's tables
+
+module _ (Y : Layout) (G : ℕ) (page : ℕ) where
+  -- "Each entry extended from gets A." Here with n entries left to read.
+  unfoldable pub walkFrom : ℕ → List ℕ → Guest → Walk → Trod
+  walkFrom zero words last w = trod words (Whole last w)
+  walkFrom (suc n) words last w =
+      let i = index Y page (w .level) in
+      let e = get Y words (w .frame .0) i in
+      byStep words last w (λ w′. walkFrom n (put Y words (w .frame .0) i (markA e)) (w .frame) w′) (step Y G w e)
+
+  abbrev pub walkGuest : List ℕ → Guest → Trod
+  walkGuest words cr3 = walkFrom (Y .levels) words cr3 (start Y cr3)
+
+-- the guest's entry for a table of level l that shadows frame g
+abbrev pub guestEntry : Layout → List ℕ → ℕ → ℕ → Guest → ℕ
+guestEntry Y words page l g = get Y words (g .0) (index Y page l)
+
+-- "The level 1 entry is written with the guest's rights, W only if D is now set." "D equals RW"
+unfoldable pub leafOf : Layout → List ℕ → ℕ → ℕ
+leafOf Y map e =
+    let r = meet (rightsOf Y e) (6 + bit e 6) in
+    compose Y r (bit r 0) (hostOf map (guest (frameOf Y e)) .0)
 
 -- all entries of a table become 0
 unfoldable pub zeroed : Layout → ℕ → List ℕ → List ℕ
@@ -104,29 +128,7 @@ module _ (M : Machine) where
   hang t i u level g r s =
       shadowOf (withEntry M t i (compose (M .tables) r 0 (M .base + u)) (s .pool)) (withRecord u level g (s .records))
 
-  -- "The level 1 entry is written with the guest's rights, W only if D is now set." "D equals RW"
-  unfoldable pub leafOf : List ℕ → ℕ → ℕ
-  leafOf map e =
-      let r = meet (rightsOf (M .tables) e) (6 + bit e 6) in
-      compose (M .tables) r (bit r 0) (hostOf map (guest (frameOf (M .tables) e)) .0)
-
-  -- ---- walking the guest's tables
-
-  -- "Each entry extended from gets A." Here with n entries left to read.
-  unfoldable pub walkFrom : ℕ → ℕ → List ℕ → Guest → Walk → Trod
-  walkFrom page zero words last w = trod words (Whole last w)
-  walkFrom page (suc n) words last w =
-      let i = index (M .tables) page (w .level) in
-      let e = get (M .tables) words (w .frame .0) i in
-      byStep words last w
-      (λ w′. walkFrom page n (put (M .tables) words (w .frame .0) i (markA e)) (w .frame) w′)
-      (step (M .tables) (M .frames) w e)
-
   -- ---- filling
-
-  -- the guest's entry for a table of level l that shadows frame g
-  abbrev pub guestEntry : List ℕ → ℕ → ℕ → Guest → ℕ
-  guestEntry words page l g = get (M .tables) words (g .0) (index (M .tables) page l)
 
   -- "differs from the guest's in rights or in the frame its table shadows"
   abbrev pub agrees : List ℕ → ℕ → ℕ → Bool
@@ -142,18 +144,24 @@ module _ (M : Machine) where
   settle words page (suc n) t g s =
       let i = index (M .tables) page (n + 2) in
       let h = entryOf M (s .pool) t i in
-      let e = guestEntry words page (n + 2) g in
+      let e = guestEntry (M .tables) words page (n + 2) g in
       cond (agrees (s .records) h e)
       (settle words page n (named M h) (guest (frameOf (M .tables) e)) s)
       (settledAt (spot (suc n) t g) (cut (suc n) t i s))
 
-  -- "missing tables are then taken, …, from the upper level down, each named with its guest entry's own rights"; then
-  -- the level 1 entry
+  -- "missing tables are then taken, …, from the upper level down, each named with its guest entry's own rights": the
+  -- next one, below table t with n + 1 missing
+  abbrev pub hangNext : List ℕ → ℕ → ℕ → ℕ → ℕ → Guest → Shadow → Settled
+  hangNext words p page n t g s =
+      let e = guestEntry (M .tables) words page (n + 2) g in
+      let u = taken p (s .records) in
+      let f = guest (frameOf (M .tables) e) in
+      settledAt (spot n u f) (hang t (index (M .tables) page (n + 2)) u (n + 1) f (rightsOf (M .tables) e) s)
+
+  -- all of them, then the level 1 entry
   unfoldable pub build : List ℕ → List ℕ → ℕ → ℕ → ℕ → ℕ → Guest → Shadow → Shadow
   build map words p page zero t g s =
-      onPool (withEntry M t (index (M .tables) page 1) (leafOf map (guestEntry words page 1 g))) s
+      onPool (withEntry M t (index (M .tables) page 1) (leafOf (M .tables) map (guestEntry (M .tables) words page 1 g))) s
   build map words p page (suc n) t g s =
-      let e = guestEntry words page (n + 2) g in
-      let u = taken p (s .records) in
-      build map words p page n u (guest (frameOf (M .tables) e))
-      (hang t (index (M .tables) page (n + 2)) u (suc n) (guest (frameOf (M .tables) e)) (rightsOf (M .tables) e) s)
+      let d = hangNext words p page n t g s in
+      build map words p page n (d .spot .table) (d .spot .frame) (d .shadow)

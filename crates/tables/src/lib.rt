@@ -7,8 +7,8 @@ ghost use lib.Dec.{eqb};
 ghost use Rattle.paging.specs.Frame.{hostOf};
 ghost use Rattle.paging.specs.Layout.{tables64, get, put, index, frameOf, rightsOf};
 ghost use Rattle.paging.specs.Walk.{meet, start};
-ghost use Rattle.tables.specs.State.{Sized, Room, machine64, shadowOf, levelOf, shadows, withRecord, tableCount, ownerOf, rootOf, owns, named, down, pathTo};
-ghost use Rattle.tables.specs.Steps.{freeTable, cut, zeroed, emptyOwn, emptyShare, mayTake, freeCount, taken, hang, leafOf, walkFrom, trod, guestEntry, agrees, settle, settledAt, build};
+ghost use Rattle.tables.specs.State.{Sized, Room, Spotted, machine64, shadowOf, levelOf, shadows, withRecord, tableCount, ownerOf, rootOf, owns, named, down, pathTo};
+ghost use Rattle.tables.specs.Steps.{freeTable, cut, zeroed, emptyOwn, emptyShare, mayTake, freeCount, taken, hang, hangNext, leafOf, walkGuest, trod, guestEntry, agrees, settle, settledAt, build};
 use paging::Guest;
 use paging::Host;
 use paging::Step;
@@ -284,4 +284,191 @@ pub fn next_free(records: &[u64], z: Sizes, p: u64) -> u64
         t += 1;
     }
     n
+}
+
+// ---- walking the guest's tables
+
+// Each entry that the walk extends from gets A.
+pub fn walk_guest(words: &mut [u64], frames: u64, cr3: Guest, page: u64) -> Walked
+    requires { ⌜ (frames ≤ 256) × (cr3 .0 < 2 ^ 40) ⌝ }
+    ensures { λ r. ⌜ trod (now (words .exit)) r ≡ walkGuest tables64 frames page (now (words .entry)) cr3 ⌝ }
+{
+    let mut last = cr3;
+    let mut w = Walk::start(cr3);
+    while w.level > 0 {
+        let f = w.frame;
+        let i = paging::index_of(page, w.level);
+        let e = entry_at(words, f.0, i);
+        match w.step(e, frames) {
+            Step::On(next) => {
+                write_entry(words, f.0, i, paging::set_accessed(e));
+                last = f;
+                w = next;
+            }
+            Step::Absent => return Walked::Fault(0),
+            Step::Beyond => return Walked::Fault(9),
+            Step::Complete => return Walked::Whole(last, w),
+        }
+    }
+    Walked::Whole(last, w)
+}
+
+// ---- filling
+
+pub fn guest_entry(words: &[u64], page: u64, level: u64, g: Guest) -> u64
+    requires { ⌜ (1 ≤ level) × (level ≤ 4) × (g .0 < 2 ^ 40) ⌝ }
+    ensures { λ r. ⌜ r ≡ guestEntry tables64 (now (words .entry)) page level g ⌝ }
+{
+    let i = paging::index_of(page, level);
+    entry_at(words, g.0, i)
+}
+
+pub fn host_at(map: &[u64], g: Guest) -> Host
+    ensures { λ r. ⌜ r ≡ hostOf (now (map .entry)) g ⌝ }
+{
+    if g.0 < map.len() as u64 {
+        paging::host_of(map, g)
+    } else {
+        Host(0)
+    }
+}
+
+// The level 1 shadow entry for a guest entry: W only if D is set.
+pub fn leaf_of(map: &[u64], e: u64) -> u64
+    requires { ⌜ ((i : ℕ) → getD (now map) i 0 < 2 ^ 40) ⌝ }
+    ensures { λ r. ⌜ r ≡ leafOf tables64 (now (map .entry)) e ⌝ }
+{
+    let r = shared_rights(paging::rights_of(e), 6 + paging::is_dirty(e));
+    let h = host_at(map, Guest(paging::frame_of(e)));
+    paging::composed(r, r % 2, h.0)
+}
+
+// Whether shadow entry h agrees with guest entry e in rights and in the frame that its table shadows.
+fn agrees(records: &[u64], z: Sizes, h: u64, e: u64) -> bool
+    requires { ⌜ Sized z ⌝ }
+    ensures { λ r. ⌜ r ≡ agrees (machine64 z) (now (records .entry)) h e ⌝ }
+{
+    let u = named_by(z, h);
+    if u >= table_count(z) {
+        return false;
+    }
+    if paging::rights_of(h) != paging::rights_of(e) {
+        return false;
+    }
+    let g = shadowed_by(records, u);
+    g.0 == paging::frame_of(e)
+}
+
+// Down from a table as long as the entries agree with the guest's; the first that does not is cut.
+pub fn settle(
+    words: &[u64],
+    pool: &mut [u64],
+    records: &mut [u64],
+    z: Sizes,
+    page: u64,
+    from: Spot,
+) -> Spot
+    requires { ⌜ Room z (now records) ⌝ }
+    requires { ⌜ Spotted z from ⌝ }
+    ensures { λ r. ⌜ settledAt r (shadowOf (now (pool .exit)) (now (records .exit))) ≡ settle (machine64 z) (now (words .entry)) page (from .missing) (from .table) (from .frame) (shadowOf (now (pool .entry)) (now (records .entry))) ⌝ }
+{
+    let mut w = from;
+    while w.missing > 0 {
+        let i = paging::index_of(page, w.missing + 1);
+        let h = entry_at(pool, w.table, i);
+        let g = w.frame;
+        let e = guest_entry(words, page, w.missing + 1, g);
+        if !agrees(records, z, h, e) {
+            cut_entry(pool, records, z, w.missing, w.table, i);
+            return w;
+        }
+        w = Spot {
+            missing: w.missing - 1,
+            table: named_by(z, h),
+            frame: Guest(paging::frame_of(e)),
+        };
+    }
+    w
+}
+
+// Entry i of t names u, which gets its record.
+fn hang_table(
+    pool: &mut [u64],
+    records: &mut [u64],
+    z: Sizes,
+    t: u64,
+    i: usize,
+    u: u64,
+    level: u64,
+    g: Guest,
+    rights: u64,
+)
+    requires { ⌜ Room z (now records) ⌝ }
+    requires { ⌜ (t < tableCount (machine64 z)) × (i < 512) × (u < tableCount (machine64 z)) × (rights < 8) ⌝ }
+    ensures { λ _. ⌜ shadowOf (now (pool .exit)) (now (records .exit)) ≡ hang (machine64 z) t i u level g rights (shadowOf (now (pool .entry)) (now (records .entry))) ⌝ }
+{
+    set_record(records, u, level, g);
+    write_entry(pool, t, i, paging::composed(rights, 0, z.base + u));
+}
+
+// Takes the next missing table and hangs it below the one that stands.
+fn hang_next(
+    words: &[u64],
+    pool: &mut [u64],
+    records: &mut [u64],
+    z: Sizes,
+    p: u64,
+    page: u64,
+    w: Spot,
+) -> Spot
+    requires { ⌜ Room z (now records) ⌝ }
+    requires { ⌜ Spotted z w × (0 < w .missing) × (taken (machine64 z) p (now records) < tableCount (machine64 z)) ⌝ }
+    ensures { λ r. ⌜ settledAt r (shadowOf (now (pool .exit)) (now (records .exit))) ≡ hangNext (machine64 z) (now (words .entry)) p page (w .missing - 1) (w .table) (w .frame) (shadowOf (now (pool .entry)) (now (records .entry))) ⌝ }
+{
+    let g = w.frame;
+    let e = guest_entry(words, page, w.missing + 1, g);
+    let u = next_free(records, z, p);
+    let below = Guest(paging::frame_of(e));
+    let i = paging::index_of(page, w.missing + 1);
+    hang_table(
+        pool,
+        records,
+        z,
+        w.table,
+        i,
+        u,
+        w.missing,
+        below,
+        paging::rights_of(e),
+    );
+    Spot {
+        missing: w.missing - 1,
+        table: u,
+        frame: below,
+    }
+}
+
+// Takes and hangs what is missing, from the upper level down, and writes the level 1 entry.
+pub fn build_path(
+    map: &[u64],
+    words: &[u64],
+    pool: &mut [u64],
+    records: &mut [u64],
+    z: Sizes,
+    p: u64,
+    page: u64,
+    from: Spot,
+)
+    requires { ⌜ Room z (now records) ⌝ }
+    requires { ⌜ Spotted z from × (from .missing ≤ freeCount (machine64 z) p (now records)) ⌝ }
+    requires { ⌜ ((i : ℕ) → getD (now map) i 0 < 2 ^ 40) ⌝ }
+    ensures { λ _. ⌜ shadowOf (now (pool .exit)) (now (records .exit)) ≡ build (machine64 z) (now (map .entry)) (now (words .entry)) p page (from .missing) (from .table) (from .frame) (shadowOf (now (pool .entry)) (now (records .entry))) ⌝ }
+{
+    let mut w = from;
+    while w.missing > 0 {
+        w = hang_next(words, pool, records, z, p, page, w);
+    }
+    let g = w.frame;
+    let e = guest_entry(words, page, 1, g);
+    write_entry(pool, w.table, paging::index_of(page, 1), leaf_of(map, e));
 }
