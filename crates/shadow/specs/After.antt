@@ -20,9 +20,9 @@ use Rattle.tables.specs.declared.Path.{Path}
 use Rattle.tables.specs.declared.Spot.{Spot}
 use Rattle.tables.specs.declared.Walked.{Walked}
 use Rattle.tables.specs.declared.Walked.the-variants.{Whole, Fault}
-use Rattle.tables.specs.Numbers.{all, first, each}
+use Rattle.tables.specs.Numbers.{all, each}
 use Rattle.tables.specs.State.{Machine, Shadow, shadowOf, onPool, onRecords, State, stateOf, shadows, withRecord, slotCount, markOf, pageIn, placeIn, rightsIn, withSlot, emptied, tableCount, rootOf, withEntry, named, nextEntry, pathTo}
-use Rattle.tables.specs.Steps.{flush, emptySlots, walkGuest, emptyShare, freeCount, settle, Settled, build}
+use Rattle.tables.specs.Steps.{servingSlot, flush, emptySlots, walkGuest, emptyShare, freeCount, settle, Settled, build}
 use Rattle.shadow.specs.declared.Answer.{Answer}
 use Rattle.shadow.specs.declared.Answer.the-variants.{Done, Address, Fault as Faulted, Again, NoStep, Refused}
 use Rattle.shadow.specs.Rules.{lawful}
@@ -88,15 +88,6 @@ isWrite q = eqb (bit (q .needs) 0) 1
 -- "The value is host frame × 4096 + address mod 4096."
 abbrev pub valueAt : Host → ℕ → ℕ
 valueAt h a = h .0 * 2 ^ 12 + a % 2 ^ 12
-
--- "a complete walk of the page and enough rights"
-abbrev pub slotServes : List ℕ → ℕ → ℕ → Request → ℕ → Bool
-slotServes slots p page q k =
-    eqb (markOf slots p k) 1 && eqb (pageIn slots p k) page && enough q (rightsIn slots p k)
-
--- "the lowest slot with a complete walk of the page and enough rights"; 8 is none
-unfoldable pub servingSlot : List ℕ → ℕ → ℕ → Request → ℕ
-servingSlot slots p page q = first slotCount (slotServes slots p page q)
 
 -- by whether a host frame has a guest frame
 abbrev pub byOrigin : Origin → (Guest → Result) → Result → Result

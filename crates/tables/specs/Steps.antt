@@ -9,23 +9,37 @@ use Rattle.paging.specs.declared.Step.{Step}
 use Rattle.paging.specs.declared.Step.the-variants.{On, Absent, Beyond, Complete}
 use Rattle.paging.specs.Frame.{guest, hostOf}
 use Rattle.paging.specs.Layout.{Layout, bit, get, put, index, frameOf, rightsOf, compose, markA, markD}
+use Rattle.paging.specs.declared.Request.{Request}
+use Rattle.paging.specs.Request.{enough}
 use Rattle.paging.specs.Walk.{meet, start, step}
 use Rattle.tables.specs.declared.Spot.{Spot}
 use Rattle.tables.specs.declared.Walked.{Walked}
 use Rattle.tables.specs.declared.Walked.the-variants.{Whole, Fault}
 use Rattle.tables.specs.Numbers.{each, first, count}
-use Rattle.tables.specs.State.{Machine, Shadow, shadowOf, onPool, onRecords, shadows, withRecord, isFree, slotCount, markOf, pageIn, emptied, tableCount, rootOf, owns, entryCount, entryOf, withEntry, named}
+use Rattle.tables.specs.State.{Machine, Shadow, shadowOf, onPool, onRecords, shadows, withRecord, isFree, slotCount, markOf, pageIn, rightsIn, emptied, tableCount, rootOf, owns, entryCount, entryOf, withEntry, named}
+
+-- "a complete walk of the page and enough rights"
+abbrev pub slotServes : List ℕ → ℕ → ℕ → Request → ℕ → Bool
+slotServes slots p page q k =
+    eqb (markOf slots p k) 1 && eqb (pageIn slots p k) page && enough q (rightsIn slots p k)
+
+-- "the lowest slot with a complete walk of the page and enough rights"; 8 is none
+unfoldable pub servingSlot : List ℕ → ℕ → ℕ → Request → ℕ
+servingSlot slots p page q = first slotCount (slotServes slots p page q)
 
 -- "the flush of v: p's partial slots and its complete slots of page v are emptied"
 abbrev pub goesWith : List ℕ → ℕ → ℕ → ℕ → Bool
 goesWith slots p page k = ltb 1 (markOf slots p k) || eqb (markOf slots p k) 1 && eqb (pageIn slots p k) page
 
+unfoldable pub flushed : ℕ → ℕ → ℕ → List ℕ → List ℕ
+flushed p page k slots = cond (goesWith slots p page k) (emptied p k slots) slots
+
 unfoldable pub flush : ℕ → ℕ → List ℕ → List ℕ
-flush p page slots = each slotCount (λ k l. cond (goesWith l p page k) (emptied p k l) l) slots
+flush p page slots = each slotCount (flushed p page) slots
 
 -- "p's slots are emptied"
 unfoldable pub emptySlots : ℕ → List ℕ → List ℕ
-emptySlots p slots = each slotCount (λ k l. emptied p k l) slots
+emptySlots p slots = each slotCount (emptied p) slots
 
 -- the guest's words after a walk of its tables, and how the walk ended
 pub record Trod : Type 0 where
