@@ -9,7 +9,7 @@ use Rattle.paging.specs.declared.Host.{Host}
 use Rattle.paging.specs.declared.Origin.{Origin}
 use Rattle.paging.specs.declared.Origin.the-variants.{Of, Nowhere}
 use Rattle.paging.specs.declared.Request.{Request}
-use Rattle.paging.specs.Frame.{guest, host, hostOf, originOf}
+use Rattle.paging.specs.Frame.{guest, host, hostOf, originOf, mapFits}
 use Rattle.paging.specs.Layout.{Layout, frameWords, bit, get, put, index, pageOf, frameOf, rightsOf, isPresent, markD}
 use Rattle.paging.specs.Walk.{meet}
 use Rattle.paging.specs.Request.{requestOf, enough}
@@ -20,7 +20,7 @@ use Rattle.tables.specs.declared.Path.{Path}
 use Rattle.tables.specs.declared.Spot.{Spot}
 use Rattle.tables.specs.declared.Walked.{Walked}
 use Rattle.tables.specs.declared.Walked.the-variants.{Whole, Fault}
-use Rattle.tables.specs.Numbers.{all, each}
+use Rattle.paging.specs.Numbers.{all, each}
 use Rattle.tables.specs.State.{Machine, Shadow, shadowOf, onPool, onRecords, State, stateOf, shadows, withRecord, slotCount, markOf, pageIn, placeIn, rightsIn, withSlot, emptied, tableCount, rootOf, withEntry, named, nextEntry, pathTo}
 use Rattle.tables.specs.Steps.{servingSlot, flush, emptySlots, walkGuest, emptyShare, freeCount, settle, Settled, build}
 use Rattle.shadow.specs.declared.Answer.{Answer}
@@ -94,11 +94,15 @@ abbrev pub byOrigin : Origin → (Guest → Result) → Result → Result
 byOrigin (Of g) found none = found g
 byOrigin Nowhere found none = none
 
-module _ (M : Machine) where
-  -- "Store: the word only. Tables are not guarded."
-  abbrev pub afterStore : ℕ → ℕ → State → Result
-  afterStore a b s = gives Done (stateOf (set (s .words) a b) (s .shadow) (s .slots))
+-- "Store: the word only. Tables are not guarded."
+abbrev pub afterStore : ℕ → ℕ → State → Result
+afterStore a b s = gives Done (stateOf (set (s .words) a b) (s .shadow) (s .slots))
 
+-- "Drop: emptied, kind 0."
+unfoldable pub afterLoss : ℕ → ℕ → State → Result
+afterLoss p k s = gives Done (stateOf (s .words) (s .shadow) (emptied p k (s .slots)))
+
+module _ (M : Machine) where
   -- "INVLPG: if present entries lead to a level 1 table, its entry becomes 0. Then the flush of v"
   unfoldable pub afterInvlpg : ℕ → ℕ → State → Result
   afterInvlpg p a s =
@@ -142,10 +146,6 @@ module _ (M : Machine) where
       (byOrigin (originOf map (host (frameOf (M .tables) e))) (λ g. moved (g .0)) none)
       (cond (ltb (named M e) (tableCount M)) (moved (named M e)) none))
       none
-
-  -- "Drop: emptied, kind 0."
-  unfoldable pub afterLoss : ℕ → ℕ → State → Result
-  afterLoss p k s = gives Done (stateOf (s .words) (s .shadow) (emptied p k (s .slots)))
 
   -- ---- access
 
@@ -231,14 +231,11 @@ module _ (M : Machine) where
   abbrev pub inPool : ℕ → Bool
   inPool f = leb (M .base) f && ltb f (M .base + tableCount M)
 
-  abbrev pub frameFits : List ℕ → ℕ → Bool
-  frameFits map i =
-      all i (λ j. not (eqb (getD map j 0) (getD map i 0)))
-      && ltb (getD map i 0) (2 ^ M .tables .frameBits)
-      && not (inPool (getD map i 0))
-
-  unfoldable pub mapFits : List ℕ → Bool
-  mapFits map = all (length map) (frameFits map) && leb (M .base + tableCount M) (2 ^ M .tables .frameBits)
+  unfoldable pub framesFit : List ℕ → Bool
+  framesFit map =
+      mapFits (2 ^ M .tables .frameBits) map
+      && all (length map) (λ i. not (inPool (getD map i 0)))
+      && leb (M .base + tableCount M) (2 ^ M .tables .frameBits)
 
   -- "12: still too few tables after emptying a share": S − 1 are free then, and as many are wanted as lie below the root
   abbrev pub tooFew : Bool
@@ -252,7 +249,7 @@ module _ (M : Machine) where
   callRefusal map s e =
       refusal
       (test 1 (not (sizesFit map (s .shadow) (s .slots) && eqb (length (s .words)) (frameWords * M .frames)))
-      ∷ test 2 (not (mapFits map))
+      ∷ test 2 (not (framesFit map))
       ∷ test 3 (not (lawful M map s))
       ∷ eventTests (asSetup s) e ++ (test 12 tooFew ∷ []))
 
@@ -277,7 +274,7 @@ module _ (M : Machine) where
   setupRefusal map cr3s s =
       refusal
       (test 1 (not (sizesFit map (s .shadow) (s .slots) && eqb (length cr3s) (M .processors)))
-      ∷ test 2 (not (mapFits map))
+      ∷ test 2 (not (framesFit map))
       ∷ test 7 (not (all (M .processors) (λ p. ltb (getD cr3s p 0) (M .frames))))
       ∷ [])
 

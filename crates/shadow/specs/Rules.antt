@@ -7,7 +7,7 @@ use Rattle.paging.specs.declared.Origin.{Origin}
 use Rattle.paging.specs.declared.Origin.the-variants.{Of, Nowhere}
 use Rattle.paging.specs.Frame.{host, originOf}
 use Rattle.paging.specs.Layout.{bit, frameOf, rightsOf, compose}
-use Rattle.tables.specs.Numbers.{all, sum, count}
+use Rattle.paging.specs.Numbers.{all, sum, count}
 use Rattle.tables.specs.State.{Machine, Shadow, State, levelOf, shadows, isFree, slotCount, markOf, pageIn, placeIn, rightsIn, tableCount, ownerOf, rootOf, entryCount, entryOf, named, pathTo}
 
 abbrev pub isOf : Origin → Bool

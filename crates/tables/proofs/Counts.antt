@@ -1,23 +1,15 @@
--- One number further: work at each, sums, searches. Each law turns what a loop has done into what it has done next.
+-- One number further: sums and searches. Each law turns what a loop has done into what it has done next.
 use mathlib.Core.Path.{_≡_, refl, sym, ap, ap₂, _∙_}
 use mathlib.Core.Bool.{Bool, true, false, cond}
 use mathlib.Core.Logic.{_⊎_, ⊎-elim}
 use Prim.Native.Nat.{ℕ, zero, suc, _+_, _-_, _<_, _≤_}
 use native.Mathlib.Numerals.{add-one}
 use native.Mathlib.Omega.{arith}
-use Rattle.tables.specs.Numbers.{each, sum, count, firstFrom, first}
+use Rattle.paging.specs.Numbers.{sum, count, firstFrom}
 
 -- the sum first, so that the cases know their types
 pub by-cases : {A B C : Type 0} → A ⊎ B → (A → C) → (B → C) → C
 by-cases s f g = ⊎-elim f g s
-
-pub each-none : {A : Type 0} (f : ℕ → A → A) (x : A) → x ≡ each 0 f x
-unfolding each
-each-none f x = refl
-
-pub each-more : {A : Type 0} (i : ℕ) (f : ℕ → A → A) (x : A) → each (i + 1) f x ≡ f i (each i f x)
-unfolding each
-each-more i f x = rw add-one
 
 pub sum-none : (f : ℕ → ℕ) → 0 ≡ sum 0 f
 unfolding sum

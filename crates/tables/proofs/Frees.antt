@@ -12,10 +12,10 @@ use Rattle.paging.specs.Frame.{guest}
 use Rattle.paging.specs.Layout.{tables64, get, put}
 use Rattle.paging.proofs.Layouts.{tables64-sound, length-put}
 use Rattle.tables.specs.declared.Sizes.{Sizes}
-use Rattle.tables.specs.Numbers.{each}
+use Rattle.paging.specs.Numbers.{each}
 use Rattle.tables.specs.State.{Machine, Shadow, shadowOf, onPool, onRecords, machine64, withRecord, withEntry, tableCount, named, Room}
 use Rattle.tables.specs.Steps.{cut, freeTable}
-use Rattle.tables.proofs.Counts.{each-none, each-more}
+use Rattle.paging.proofs.Numbers.{each-none, each-more}
 
 -- a table with no level is as it is
 pub table-none : (M : Machine) (l t : ℕ) (s : Shadow) → l ≡ 0 → s ≡ freeTable M l t s
@@ -73,5 +73,5 @@ turn {z} {t} {level} {i} {pool₀} {records₀} inv h lp lr step =
       within = omega arith;
       words = lp ∙ inv .words;
       pairs = lr ∙ inv .pairs;
-      done = step ∙ ap (f i) (inv .done) ∙ sym (each-more i f (shadowOf pool₀ records₀));
+      done = step ∙ ap (f i) (inv .done) ∙ sym (each-more f (shadowOf pool₀ records₀) i);
     }

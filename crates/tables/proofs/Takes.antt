@@ -11,7 +11,7 @@ use lib.Dec.{eqb}
 use lib.ListN.{getD, set}
 use lib.Seq.{getD-set-other}
 use Rattle.paging.specs.declared.Guest.{Guest}
-use Rattle.tables.specs.Numbers.{sum, count, firstFrom, first}
+use Rattle.paging.specs.Numbers.{sum, count, firstFrom, first}
 use Rattle.tables.specs.State.{Machine, tableCount, owns, withRecord, levelOf}
 use Rattle.tables.specs.Steps.{mayTake, freeCount, taken}
 

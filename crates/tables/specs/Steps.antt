@@ -15,7 +15,7 @@ use Rattle.paging.specs.Walk.{meet, start, step}
 use Rattle.tables.specs.declared.Spot.{Spot}
 use Rattle.tables.specs.declared.Walked.{Walked}
 use Rattle.tables.specs.declared.Walked.the-variants.{Whole, Fault}
-use Rattle.tables.specs.Numbers.{each, first, count}
+use Rattle.paging.specs.Numbers.{each, first, count}
 use Rattle.tables.specs.State.{Machine, Shadow, shadowOf, onPool, onRecords, shadows, withRecord, isFree, slotCount, markOf, pageIn, rightsIn, emptied, tableCount, rootOf, owns, entryCount, entryOf, withEntry, named}
 
 -- "a complete walk of the page and enough rights"

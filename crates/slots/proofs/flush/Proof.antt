@@ -3,9 +3,9 @@ use mathlib.Core.Path.{_≡_, refl, sym, ap, _∙_}
 use Prim.Native.Nat.{ℕ, _-_, _≤_}
 use native.Mathlib.Omega.{arith}
 use lib.ListN.{length}
-use Rattle.tables.specs.Numbers.{each}
+use Rattle.paging.specs.Numbers.{each}
 use Rattle.tables.specs.Steps.{flushed, flush}
-use Rattle.tables.proofs.Counts.{each-none, each-more}
+use Rattle.paging.proofs.Numbers.{each-none, each-more}
 use Rattle.slots.proofs.flush.Statement.{statement}
 use Rattle.slots.proofs.flush.Tie as tie
 
@@ -22,7 +22,7 @@ loop-again c =
     let f = flushed (a .p) (a .page) in (
       omega arith,
       c .before .before .flush-slot .kept .0 ∙ l .inv .1,
-      c .before .before .flush-slot .ensures ∙ ap (f (l .k)) (l .inv .2) ∙ sym (each-more (l .k) f (a .slots .now)),
+      c .before .before .flush-slot .ensures ∙ ap (f (l .k)) (l .inv .2) ∙ sym (each-more f (a .slots .now) (l .k)),
     )
 
 returns : tie.Need-returns Inv-loop μ-loop
@@ -37,7 +37,7 @@ flush-spec =
     (tie.spec
     Inv-loop
     μ-loop
-    (λ c. (omega arith, refl, each-none _ _))
+    (λ c. (omega arith, refl, sym (each-none _ _)))
     (λ c κs. omega (arith, c .before .before .before .before .pre))
     (λ c. omega arith)
     (λ c. omega arith)

@@ -2,7 +2,7 @@
 use mathlib.Core.Path.{_≡_, refl, sym, ap, _∙_}
 use Prim.Native.Nat.{ℕ, _+_, _-_, _≤_}
 use native.Mathlib.Omega.{arith}
-use Rattle.tables.specs.Numbers.{firstFrom}
+use Rattle.paging.specs.Numbers.{firstFrom}
 use Rattle.tables.specs.Steps.{slotServes, servingSlot}
 use Rattle.tables.proofs.Counts.{first-here, first-on, first-none}
 use Rattle.slots.proofs.serving_slot.Statement.{statement}

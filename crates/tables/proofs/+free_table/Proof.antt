@@ -10,7 +10,8 @@ use borrow.Fn.PlainCycle.{Measures, is, falls, and}
 use Rattle.paging.specs.Layout.{tables64, put}
 use Rattle.tables.specs.State.{shadowOf, Room}
 use Rattle.tables.proofs.Names.{few}
-use Rattle.tables.proofs.Counts.{by-cases, each-none}
+use Rattle.paging.proofs.Numbers.{each-none}
+use Rattle.tables.proofs.Counts.{by-cases}
 use Rattle.tables.proofs.Frees.{Turned, turn, cut-freed, cut-kept, table-none, table-some}
 use Rattle.tables.proofs.table_count.Reads as table-count
 use Rattle.tables.proofs.entry_at.Reads as entry-at
@@ -41,7 +42,7 @@ module _ (m : ℕ) where
 
   loop-holds : lts.Need-loop-holds calls at own.Post Inv-loop μ-loop
   loop-holds c =
-      record { some = omega arith; room = c .before .before .before .before .pre .1 .0; table = c .before .before .before .before .pre .1 .1; within = omega arith; words = refl; pairs = refl; done = each-none _ _ }
+      record { some = omega arith; room = c .before .before .before .before .pre .1 .0; table = c .before .before .before .before .pre .1 .1; within = omega arith; words = refl; pairs = refl; done = sym (each-none _ _) }
 
   free-table-requires : lts.Need-free-table-requires calls at own.Post Inv-loop μ-loop
   free-table-requires c κs =

@@ -3,11 +3,11 @@ use mathlib.Core.Path.{_≡_, refl, sym, ap, _∙_}
 use Prim.Native.Nat.{ℕ, _-_, _≤_}
 use native.Mathlib.Omega.{arith}
 use lib.ListN.{length}
-use Rattle.tables.specs.Numbers.{each}
+use Rattle.paging.specs.Numbers.{each}
 use Rattle.tables.specs.State.{machine64, shadowOf}
 use Rattle.tables.specs.Steps.{emptyOwn, emptyShare}
 use Rattle.tables.proofs.Names.{few}
-use Rattle.tables.proofs.Counts.{each-none, each-more}
+use Rattle.paging.proofs.Numbers.{each-none, each-more}
 use Rattle.tables.proofs.empty_share.Statement.{statement}
 use Rattle.tables.proofs.empty_share.Tie as tie
 
@@ -32,7 +32,7 @@ loop-again c =
       omega arith,
       e .kept .0 ∙ l .inv .1,
       e .kept .1 .0 ∙ l .inv .2,
-      e .ensures ∙ ap (f (l .t)) (l .inv .3) ∙ sym (each-more (l .t) f (shadowOf (a .pool .now) (a .records .now))),
+      e .ensures ∙ ap (f (l .t)) (l .inv .3) ∙ sym (each-more f (shadowOf (a .pool .now) (a .records .now)) (l .t)),
     )
 
 returns : tie.Need-returns Inv-loop μ-loop
@@ -49,7 +49,7 @@ empty-share-spec =
     Inv-loop
     μ-loop
     (λ c κs. c .before .before .pre .0 .sized)
-    (λ c. (omega arith, refl, refl, each-none _ _))
+    (λ c. (omega arith, refl, refl, sym (each-none _ _)))
     empty-table-requires
     (λ c. omega (arith, few (c .before .before .before .before .before .before .before .before .before .before .before .before .pre .0 .sized), c .before .before .before .before .before .before .before .before .before .table-count .ensures))
     (λ c. omega arith)

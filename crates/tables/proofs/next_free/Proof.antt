@@ -2,7 +2,7 @@
 use mathlib.Core.Path.{_≡_, refl, sym, ap, _∙_}
 use Prim.Native.Nat.{ℕ, _+_, _-_, _≤_}
 use native.Mathlib.Omega.{arith}
-use Rattle.tables.specs.Numbers.{firstFrom}
+use Rattle.paging.specs.Numbers.{firstFrom}
 use Rattle.tables.specs.State.{machine64}
 use Rattle.tables.specs.Steps.{mayTake, taken}
 use Rattle.tables.proofs.Names.{few}

@@ -5,9 +5,9 @@ use Prim.Native.Nat.{ℕ, _-_, _≤_}
 use native.Mathlib.Omega.{arith}
 use lib.ListN.{length}
 use Rattle.paging.specs.Layout.{tables64, put}
-use Rattle.tables.specs.Numbers.{each}
+use Rattle.paging.specs.Numbers.{each}
 use Rattle.tables.specs.Steps.{zeroed}
-use Rattle.tables.proofs.Counts.{each-none, each-more}
+use Rattle.paging.proofs.Numbers.{each-none, each-more}
 use Rattle.tables.proofs.zero_table.Statement.{statement}
 use Rattle.tables.proofs.zero_table.Tie as tie
 
@@ -25,7 +25,7 @@ loop-again c =
     let f : ℕ → List ℕ → List ℕ = λ k x. put tables64 x (a .t) k 0 in (
       omega arith,
       c .before .before .write-entry .kept .0 ∙ l .inv .1,
-      c .before .before .write-entry .ensures ∙ ap (f (l .i)) (l .inv .2) ∙ sym (each-more (l .i) f (a .pool .now)),
+      c .before .before .write-entry .ensures ∙ ap (f (l .i)) (l .inv .2) ∙ sym (each-more f (a .pool .now) (l .i)),
     )
 
 returns : tie.Need-returns Inv-loop μ-loop
@@ -41,7 +41,7 @@ zero-table-spec =
     (tie.spec
     Inv-loop
     μ-loop
-    (λ c. (omega arith, refl, each-none _ _))
+    (λ c. (omega arith, refl, sym (each-none _ _)))
     (λ c κs. omega (arith, c .before .before .before .before .pre))
     (λ c. omega arith)
     (λ c. omega arith)
