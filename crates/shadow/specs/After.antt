@@ -16,15 +16,16 @@ use Rattle.paging.specs.Request.{requestOf, enough}
 use Rattle.rules.specs.declared.Event.{Event}
 use Rattle.rules.specs.Refusal.{Test, test, refusal}
 use Rattle.rules.specs.History.{Setup, isStore, isInvlpg, isCr3Write, isAccess, isBegin, isExtend, eventTests}
-use Rattle.tables.specs.declared.Path.{Path}
 use Rattle.tables.specs.declared.Spot.{Spot}
 use Rattle.tables.specs.declared.Walked.{Walked}
 use Rattle.tables.specs.declared.Walked.the-variants.{Whole, Fault}
 use Rattle.paging.specs.Numbers.{all, each}
-use Rattle.tables.specs.State.{Machine, Shadow, shadowOf, onPool, onRecords, State, stateOf, shadows, withRecord, slotCount, markOf, pageIn, placeIn, rightsIn, withSlot, emptied, tableCount, rootOf, withEntry, named, nextEntry, pathTo}
+use Rattle.tables.specs.State.{Machine, Shadow, shadowOf, onPool, onRecords, State, stateOf, shadows, withRecord, slotCount, markOf, pageIn, placeIn, rightsIn, withSlot, emptied, tableCount, rootOf, entryOf, withEntry, named, nextEntry, pathTo}
 use Rattle.tables.specs.Steps.{servingSlot, flush, emptySlots, walkGuest, emptyShare, freeCount, settle, Settled, build}
 use Rattle.shadow.specs.declared.Answer.{Answer}
 use Rattle.shadow.specs.declared.Answer.the-variants.{Done, Address, Fault as Faulted, Again, NoStep, Refused}
+use Rattle.shadow.specs.declared.Place.{Place}
+use Rattle.shadow.specs.declared.Place.the-variants.{At, Off}
 use Rattle.shadow.specs.Rules.{lawful}
 
 -- "Answer: refusal, kind (0 done, 1 address, 2 guest fault, 3 again, 4 no step), value (0 for kinds 0, 3 and 4)."
@@ -89,10 +90,14 @@ isWrite q = eqb (bit (q .needs) 0) 1
 abbrev pub valueAt : Host → ℕ → ℕ
 valueAt h a = h .0 * 2 ^ 12 + a % 2 ^ 12
 
--- by whether a host frame has a guest frame
-abbrev pub byOrigin : Origin → (Guest → Result) → Result → Result
-byOrigin (Of g) found none = found g
-byOrigin Nowhere found none = none
+-- by whether a walk has a place to move to
+abbrev pub byPlace : Place → (ℕ → Result) → Result → Result
+byPlace (At x) on off = on x
+byPlace Off on off = off
+
+abbrev pub placeOf : Origin → Place
+placeOf (Of g) = At (g .0)
+placeOf Nowhere = Off
 
 -- "Store: the word only. Tables are not guarded."
 abbrev pub afterStore : ℕ → ℕ → State → Result
@@ -102,16 +107,24 @@ afterStore a b s = gives Done (stateOf (set (s .words) a b) (s .shadow) (s .slot
 unfoldable pub afterLoss : ℕ → ℕ → State → Result
 afterLoss p k s = gives Done (stateOf (s .words) (s .shadow) (emptied p k (s .slots)))
 
+-- "On success a write also sets D in the last entry": in the word as it is now
+unfoldable pub dirtied : Layout → Request → ℕ → Guest → List ℕ → List ℕ
+dirtied Y q page last words =
+    let i = index Y page 1 in
+    cond (isWrite q) (put Y words (last .0) i (markD (get Y words (last .0) i))) words
+
 module _ (M : Machine) where
-  -- "INVLPG: if present entries lead to a level 1 table, its entry becomes 0. Then the flush of v"
+  -- "if present entries lead to a level 1 table, its entry becomes 0"
+  unfoldable pub leafCleared : ℕ → ℕ → List ℕ → List ℕ
+  leafCleared p page pool =
+      let t = pathTo M pool p page 1 .table in
+      cond (ltb t (tableCount M)) (withEntry M t (index (M .tables) page 1) 0 pool) pool
+
+  -- "INVLPG: … Then the flush of v"
   unfoldable pub afterInvlpg : ℕ → ℕ → State → Result
   afterInvlpg p a s =
       let page = pageOf (M .tables) a in
-      let t = pathTo M (s .shadow .pool) p page 1 .table in
-      gives Done
-      (stateOf (s .words)
-      (cond (ltb t (tableCount M)) (onPool (withEntry M t (index (M .tables) page 1) 0) (s .shadow)) (s .shadow))
-      (flush p page (s .slots)))
+      gives Done (stateOf (s .words) (onPool (leafCleared p page) (s .shadow)) (flush p page (s .slots)))
 
   -- "CR3 write: all tables of p freed, root set up anew, all slots of p emptied."
   unfoldable pub afterCr3 : ℕ → ℕ → State → Result
@@ -128,24 +141,24 @@ module _ (M : Machine) where
       (stateOf (s .words) (s .shadow)
       (withSlot p k (M .tables .levels + 1) (pageOf (M .tables) a) (rootOf M p) 7 (s .slots)))
 
-  -- "Extend: a partial slot whose shadow entry is present moves one level; else kind 4." From level 1 it moves to the
-  -- guest frame behind the entry's host frame: "the guest frame or the table".
+  -- "place being the guest frame or the table": from level 1 a walk moves to the guest frame behind the entry's host frame
+  unfoldable pub placeBelow : List ℕ → ℕ → ℕ → Place
+  placeBelow map l e =
+      cond (eqb l 1) (placeOf (originOf map (host (frameOf (M .tables) e))))
+      (cond (ltb (named M e) (tableCount M)) (At (named M e)) Off)
+
+  -- "Extend: a partial slot whose shadow entry is present moves one level; else kind 4."
   unfoldable pub afterExtend : List ℕ → ℕ → ℕ → State → Result
   afterExtend map p k s =
       let mark = markOf (s .slots) p k in
       let page = pageIn (s .slots) p k in
-      let w : Path = record { level = mark - 1; table = placeIn (s .slots) p k; rights = rightsIn (s .slots) p k } in
-      let e = nextEntry M (s .shadow .pool) page w in
-      let moved : ℕ → Result = λ place.
-      gives Done
-      (stateOf (s .words) (s .shadow)
-      (withSlot p k (mark - 1) page place (meet (w .rights) (rightsOf (M .tables) e)) (s .slots))) in
-      let none = gives NoStep s in
+      let e = entryOf M (s .shadow .pool) (placeIn (s .slots) p k) (index (M .tables) page (mark - 1)) in
+      let rights = meet (rightsIn (s .slots) p k) (rightsOf (M .tables) e) in
       cond (ltb 1 mark && isPresent e)
-      (cond (eqb mark 2)
-      (byOrigin (originOf map (host (frameOf (M .tables) e))) (λ g. moved (g .0)) none)
-      (cond (ltb (named M e) (tableCount M)) (moved (named M e)) none))
-      none
+      (byPlace (placeBelow map (mark - 1) e)
+      (λ place. gives Done (stateOf (s .words) (s .shadow) (withSlot p k (mark - 1) page place rights (s .slots))))
+      (gives NoStep s))
+      (gives NoStep s)
 
   -- ---- access
 
@@ -164,19 +177,13 @@ module _ (M : Machine) where
       (build M map (s .words) p page (w .missing) (w .table) (w .frame) (d .shadow))
       (flush p page (s .slots)))
 
-  -- "On success a write also sets D in the last entry": in the word as it is now
-  unfoldable pub dirtied : Request → ℕ → Guest → List ℕ → List ℕ
-  dirtied q page last words =
-      let i = index (M .tables) page 1 in
-      cond (isWrite q) (put (M .tables) words (last .0) i (markD (get (M .tables) words (last .0) i))) words
-
   -- "A fault answers kind 2 with the code and changes nothing more."
   -- "A completed walk that lacks a needed right gives base code 1."
   abbrev pub afterWalk : List ℕ → ℕ → ℕ → Request → State → Walked → Result
   afterWalk map p page q s (Fault base) = gives (Faulted (base + q .adds)) s
   afterWalk map p page q s (Whole last w) =
       cond (enough q (w .rights))
-      (gives Again (fill map p page (stateOf (dirtied q page last (s .words)) (s .shadow) (s .slots))))
+      (gives Again (fill map p page (stateOf (dirtied (M .tables) q page last (s .words)) (s .shadow) (s .slots))))
       (gives (Faulted (1 + q .adds)) s)
 
   -- "Else the guest tables are walked."

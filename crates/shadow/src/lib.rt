@@ -1,4 +1,24 @@
 // The machine: setup, and one call for each event.
+ghost use mathlib.Core.Path.{_≡_};
+ghost use mathlib.Core.Bool.{_&&_};
+ghost use mathlib.Core.List.{List};
+ghost use Prim.Native.Nat.{ℕ, _+_, _*_, _^_, _<_, _≤_};
+ghost use lib.ListN.{length};
+ghost use Rattle.paging.specs.Layout.{tables64, rightsOf, isPresent};
+ghost use Rattle.paging.specs.Request.{enough};
+ghost use Rattle.paging.specs.Walk.{meet};
+ghost use Rattle.tables.specs.State.{Shadow, shadowOf, State, stateOf, machine64, Sized, Room};
+ghost use Rattle.shadow.specs.After.{gives, afterStore, leafCleared, afterInvlpg, afterCr3, afterBegin, placeBelow, afterExtend, afterLoss, valueAt, dirtied, fill, afterMiss, afterAccess};
+ghost use Rattle.shadow.specs.Ready.{Ready, Standing};
+use paging::Guest;
+use paging::Host;
+use paging::Origin;
+use paging::Request;
+use rules::Event;
+use tables::Path;
+use tables::Sizes;
+use tables::Spot;
+use tables::Walked;
 
 // "Answer: refusal, kind (0 done, 1 address, 2 guest fault, 3 again, 4 no step), value"; `refusalOf`, `kindOf` and
 // `valueOf` of specs/After give these numbers.
@@ -9,4 +29,124 @@ pub enum Answer {
     Again,
     NoStep,
     Refused(u64),
+}
+
+// Where a walk moves to: a guest frame or a table; or nowhere.
+pub enum Place {
+    At(u64),
+    Off,
+}
+
+// ---- the events but access
+
+fn store(words: &mut [u64], a: u64, b: u64) -> Answer
+    requires { ⌜ a < length (now words) ⌝ }
+    ensures { λ r. ⌜ ((h : Shadow) (l : List ℕ) → gives r (stateOf (now (words .exit)) h l) ≡ afterStore a b (stateOf (now (words .entry)) h l)) ⌝ }
+{
+    words[a as usize] = b;
+    Answer::Done
+}
+
+// Clears the page's level 1 entry, if one is reached.
+fn clear_leaf(pool: &mut [u64], z: Sizes, p: u64, page: u64)
+    requires { ⌜ Sized z × (p < z .processors) ⌝ }
+    ensures { λ _. ⌜ now (pool .exit) ≡ leafCleared (machine64 z) p page (now (pool .entry)) ⌝ }
+{
+    let w = tables::path_to(pool, z, p, page, 1);
+    if w.table < tables::table_count(z) {
+        tables::write_entry(pool, w.table, paging::index_of(page, 1), 0);
+    }
+}
+
+fn invlpg(pool: &mut [u64], slots: &mut [u64], z: Sizes, p: u64, a: u64) -> Answer
+    requires { ⌜ Sized z × (p < z .processors) × (24 * p + 24 ≤ length (now slots)) ⌝ }
+    ensures { λ r. ⌜ ((w records : List ℕ) → gives r (stateOf w (shadowOf (now (pool .exit)) records) (now (slots .exit))) ≡ afterInvlpg (machine64 z) p a (stateOf w (shadowOf (now (pool .entry)) records) (now (slots .entry)))) ⌝ }
+{
+    let page = paging::page_of(a);
+    clear_leaf(pool, z, p, page);
+    slots::flush(slots, p, page);
+    Answer::Done
+}
+
+fn write_cr3(
+    pool: &mut [u64],
+    records: &mut [u64],
+    slots: &mut [u64],
+    z: Sizes,
+    p: u64,
+    f: u64,
+) -> Answer
+    requires { ⌜ Room z (now records) ⌝ }
+    requires { ⌜ (p < z .processors) × (24 * p + 24 ≤ length (now slots)) ⌝ }
+    ensures { λ r. ⌜ ((w : List ℕ) → gives r (stateOf w (shadowOf (now (pool .exit)) (now (records .exit))) (now (slots .exit))) ≡ afterCr3 (machine64 z) p f (stateOf w (shadowOf (now (pool .entry)) (now (records .entry))) (now (slots .entry)))) ⌝ }
+{
+    tables::empty_share(pool, records, z, p);
+    tables::set_record(records, tables::root_of(z, p), 4, Guest(f));
+    slots::empty_slots(slots, p);
+    Answer::Done
+}
+
+fn begin(slots: &mut [u64], z: Sizes, p: u64, a: u64, k: u64) -> Answer
+    requires { ⌜ Sized z × (p < z .processors) × (24 * p + 24 ≤ length (now slots)) × (k < 8) ⌝ }
+    ensures { λ r. ⌜ ((w : List ℕ) (h : Shadow) → gives r (stateOf w h (now (slots .exit))) ≡ afterBegin (machine64 z) p a k (stateOf w h (now (slots .entry)))) ⌝ }
+{
+    slots::set_slot(slots, p, k, 5, paging::page_of(a), tables::root_of(z, p), 7);
+    Answer::Done
+}
+
+fn lose(slots: &mut [u64], p: u64, k: u64) -> Answer
+    requires { ⌜ (p < 4) × (24 * p + 24 ≤ length (now slots)) × (k < 8) ⌝ }
+    ensures { λ r. ⌜ ((w : List ℕ) (h : Shadow) → gives r (stateOf w h (now (slots .exit))) ≡ afterLoss p k (stateOf w h (now (slots .entry)))) ⌝ }
+{
+    slots::set_slot(slots, p, k, 0, 0, 0, 0);
+    Answer::Done
+}
+
+// Where a walk moves to from an entry of a level: the guest frame or the table.
+fn place_below(map: &[u64], z: Sizes, level: u64, e: u64) -> Place
+    requires { ⌜ Sized z ⌝ }
+    ensures { λ r. ⌜ r ≡ placeBelow (machine64 z) (now (map .entry)) level e ⌝ }
+{
+    if level == 1 {
+        return match paging::origin_of(map, Host(paging::frame_of(e))) {
+            Origin::Of(g) => Place::At(g.0),
+            Origin::Nowhere => Place::Off,
+        };
+    }
+    let u = tables::named_by(z, e);
+    if u < tables::table_count(z) {
+        Place::At(u)
+    } else {
+        Place::Off
+    }
+}
+
+// ---- access
+
+fn value_at(h: Host, a: u64) -> u64
+    requires { ⌜ h .0 < 2 ^ 40 ⌝ }
+    ensures { λ r. ⌜ r ≡ valueAt h a ⌝ }
+{
+    h.0 * 4096 + a % 4096
+}
+
+fn set_d(words: &mut [u64], q: Request, page: u64, last: Guest)
+    requires { ⌜ last .0 < 2 ^ 40 ⌝ }
+    ensures { λ _. ⌜ now (words .exit) ≡ dirtied tables64 q page last (now (words .entry)) ⌝ }
+{
+    if q.needs % 2 == 1 {
+        let i = paging::index_of(page, 1);
+        let e = tables::entry_at(words, last.0, i);
+        tables::write_entry(words, last.0, i, paging::set_dirty(e));
+    }
+}
+
+fn path_serves(w: Path, e: u64, q: Request) -> bool
+    requires { ⌜ (w .rights < 8) × (q .needs < 8) ⌝ }
+    ensures { λ r. ⌜ r ≡ (isPresent e && enough q (meet (w .rights) (rightsOf tables64 e))) ⌝ }
+{
+    if !paging::present(e) {
+        return false;
+    }
+    paging::has_enough(q, tables::shared_rights(w.rights, paging::rights_of(e)))
 }
