@@ -121,6 +121,30 @@ fn place_below(map: &[u64], z: Sizes, level: u64, e: u64) -> Place
     }
 }
 
+fn extend(map: &[u64], pool: &[u64], slots: &mut [u64], z: Sizes, p: u64, k: u64) -> Answer
+    requires { ⌜ Sized z × (p < z .processors) × (24 * p + 24 ≤ length (now slots)) × (k < 8) × (length (now map) ≤ 256) × Standing (now slots) p k ⌝ }
+    ensures { λ r. ⌜ ((w records : List ℕ) → gives r (stateOf w (shadowOf (now (pool .entry)) records) (now (slots .exit))) ≡ afterExtend (machine64 z) (now (map .entry)) p k (stateOf w (shadowOf (now (pool .entry)) records) (now (slots .entry)))) ⌝ }
+{
+    let at = slots::slot_at(p, k);
+    let mark = slots[at];
+    if mark < 2 {
+        return Answer::NoStep;
+    }
+    let page = slots[at + 1];
+    let e = tables::entry_at(pool, slots[at + 2] / 8, paging::index_of(page, mark - 1));
+    if !paging::present(e) {
+        return Answer::NoStep;
+    }
+    let rights = tables::shared_rights(slots[at + 2] % 8, paging::rights_of(e));
+    match place_below(map, z, mark - 1, e) {
+        Place::At(place) => {
+            slots::set_slot(slots, p, k, mark - 1, page, place, rights);
+            Answer::Done
+        }
+        Place::Off => Answer::NoStep,
+    }
+}
+
 // ---- access
 
 fn value_at(h: Host, a: u64) -> u64

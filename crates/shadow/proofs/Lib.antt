@@ -1,0 +1,2 @@
+pub mod Extends
+pub mod Shares
