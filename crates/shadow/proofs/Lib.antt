@@ -1,2 +1,4 @@
 pub mod Extends
 pub mod Shares
+pub mod Filling
+pub mod Walking

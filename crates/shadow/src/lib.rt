@@ -154,6 +154,38 @@ fn value_at(h: Host, a: u64) -> u64
     h.0 * 4096 + a % 4096
 }
 
+fn fill(
+    map: &[u64],
+    words: &[u64],
+    pool: &mut [u64],
+    records: &mut [u64],
+    slots: &mut [u64],
+    z: Sizes,
+    p: u64,
+    page: u64,
+)
+    requires { ⌜ Ready z (now map) (now records) (now slots) p ⌝ }
+    ensures { λ _. ⌜ stateOf (now (words .entry)) (shadowOf (now (pool .exit)) (now (records .exit))) (now (slots .exit)) ≡ fill (machine64 z) (now (map .entry)) p page (stateOf (now (words .entry)) (shadowOf (now (pool .entry)) (now (records .entry))) (now (slots .entry))) ⌝ }
+{
+    let root = tables::root_of(z, p);
+    let cr3 = tables::shadowed_by(records, root);
+    let top = Spot {
+        missing: 3,
+        table: root,
+        frame: cr3,
+    };
+    let w = tables::settle(words, pool, records, z, page, top);
+    if tables::count_free(records, z, p) < w.missing {
+        tables::empty_share(pool, records, z, p);
+        slots::empty_slots(slots, p);
+        tables::build_path(map, words, pool, records, z, p, page, top);
+        slots::flush(slots, p, page);
+    } else {
+        tables::build_path(map, words, pool, records, z, p, page, w);
+        slots::flush(slots, p, page);
+    }
+}
+
 fn set_d(words: &mut [u64], q: Request, page: u64, last: Guest)
     requires { ⌜ last .0 < 2 ^ 40 ⌝ }
     ensures { λ _. ⌜ now (words .exit) ≡ dirtied tables64 q page last (now (words .entry)) ⌝ }
