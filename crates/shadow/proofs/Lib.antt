@@ -2,3 +2,4 @@ pub mod Extends
 pub mod Shares
 pub mod Filling
 pub mod Walking
+pub mod Accesses
