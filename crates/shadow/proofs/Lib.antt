@@ -3,3 +3,4 @@ pub mod Shares
 pub mod Filling
 pub mod Walking
 pub mod Accesses
+pub mod Moves

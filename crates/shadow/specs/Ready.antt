@@ -3,6 +3,7 @@ use mathlib.Core.Path.{_≡_}
 use mathlib.Core.List.{List}
 use Prim.Native.Nat.{ℕ, _+_, _*_, _^_, _≤_, _<_}
 use lib.ListN.{length, getD}
+use Rattle.rules.specs.declared.Event.{Event}
 use Rattle.tables.specs.declared.Sizes.{Sizes}
 use Rattle.tables.specs.State.{machine64, tableCount, rootOf, shadows, markOf, placeIn, Sized}
 
@@ -20,3 +21,13 @@ pub record Ready (z : Sizes) (map records slots : List ℕ) (p : ℕ) : Type 0 w
 pub record Standing (slots : List ℕ) (p k : ℕ) : Type 0 where
   pub level : markOf slots p k ≤ 5
   pub table : 1 < markOf slots p k → placeIn slots p k < 2 ^ 40
+
+-- an event within the ranges of "Refusal numbers", for the words and slots that it names
+pub record Fitting (words slots : List ℕ) (e : Event) : Type 0 where
+  pub kind : (1 ≤ e .kind) × (e .kind ≤ 7)
+  pub stores : e .kind ≡ 1 → e .a < length words
+  pub requests : e .kind ≡ 4 → e .b < 6
+  pub begins : e .kind ≡ 5 → e .b < 8
+  pub extends : e .kind ≡ 6 → e .a < 8
+  pub loses : e .kind ≡ 7 → e .a < 8
+  pub stands : (k : ℕ) → k < 8 → Standing slots (e .proc) k

@@ -8,8 +8,8 @@ ghost use Rattle.paging.specs.Layout.{tables64, rightsOf, isPresent};
 ghost use Rattle.paging.specs.Request.{enough};
 ghost use Rattle.paging.specs.Walk.{meet};
 ghost use Rattle.tables.specs.State.{Shadow, shadowOf, State, stateOf, machine64, Sized, Room};
-ghost use Rattle.shadow.specs.After.{gives, afterStore, leafCleared, afterInvlpg, afterCr3, afterBegin, placeBelow, afterExtend, afterLoss, valueAt, dirtied, fill, afterMiss, afterAccess};
-ghost use Rattle.shadow.specs.Ready.{Ready, Standing};
+ghost use Rattle.shadow.specs.After.{gives, afterStore, leafCleared, afterInvlpg, afterCr3, afterBegin, placeBelow, afterExtend, afterLoss, valueAt, dirtied, fill, afterMiss, afterAccess, decode, moved};
+ghost use Rattle.shadow.specs.Ready.{Ready, Standing, Fitting};
 use paging::Guest;
 use paging::Host;
 use paging::Origin;
@@ -265,4 +265,32 @@ fn access(
         return Answer::Address(value_at(Host(paging::frame_of(e)), a));
     }
     miss(map, words, pool, records, slots, z, p, page, q)
+}
+
+// ---- the calls
+
+fn take_step(
+    map: &[u64],
+    words: &mut [u64],
+    pool: &mut [u64],
+    records: &mut [u64],
+    slots: &mut [u64],
+    z: Sizes,
+    e: Event,
+) -> Answer
+    requires { ⌜ Ready z (now map) (now records) (now slots) (e .proc) ⌝ }
+    requires { ⌜ Fitting (now words) (now slots) e ⌝ }
+    ensures { λ r. ⌜ gives r (stateOf (now (words .exit)) (shadowOf (now (pool .exit)) (now (records .exit))) (now (slots .exit))) ≡ moved (machine64 z) (now (map .entry)) (e .proc) (decode e) (stateOf (now (words .entry)) (shadowOf (now (pool .entry)) (now (records .entry))) (now (slots .entry))) ⌝ }
+{
+    let p = e.proc;
+    let kind = e.kind;
+    match kind {
+        1 => store(words, e.a, e.b),
+        2 => invlpg(pool, slots, z, p, e.a),
+        3 => write_cr3(pool, records, slots, z, p, e.a),
+        4 => access(map, words, pool, records, slots, z, p, e.a, e.b),
+        5 => begin(slots, z, p, e.a, e.b),
+        6 => extend(map, pool, slots, z, p, e.a),
+        _ => lose(slots, p, e.a),
+    }
 }
