@@ -26,7 +26,7 @@ use Rattle.shadow.specs.declared.Answer.{Answer}
 use Rattle.shadow.specs.declared.Answer.the-variants.{Done, Address, Fault as Faulted, Again, NoStep, Refused}
 use Rattle.shadow.specs.declared.Place.{Place}
 use Rattle.shadow.specs.declared.Place.the-variants.{At, Off}
-use Rattle.shadow.specs.Rules.{lawful}
+use Rattle.lawful.specs.Rules.{lawful}
 
 -- "Answer: refusal, kind (0 done, 1 address, 2 guest fault, 3 again, 4 no step), value (0 for kinds 0, 3 and 4)."
 abbrev pub refusalOf : Answer → ℕ

@@ -6,7 +6,7 @@ use lib.Dec.{eqb, ltb, leb}
 use Rattle.paging.specs.declared.Origin.{Origin}
 use Rattle.paging.specs.declared.Origin.the-variants.{Of, Nowhere}
 use Rattle.paging.specs.Frame.{host, originOf}
-use Rattle.paging.specs.Layout.{bit, frameOf, rightsOf, compose}
+use Rattle.paging.specs.Layout.{Layout, bit, frameOf, rightsOf, compose}
 use Rattle.paging.specs.Numbers.{all, sum, count}
 use Rattle.tables.specs.State.{Machine, Shadow, State, levelOf, shadows, isFree, slotCount, markOf, pageIn, placeIn, rightsIn, tableCount, ownerOf, rootOf, entryCount, entryOf, named, pathTo}
 
@@ -18,33 +18,33 @@ isOf Nowhere = false
 abbrev pub isMapped : List ℕ → ℕ → Bool
 isMapped map f = isOf (originOf map (host f))
 
+-- "Shadow entries use the layout above, A always 1 in a present one; … unnamed bits are 0": an entry that is made of its
+-- own rights and frame, of the D given, and of nothing else
+unfoldable pub isMadeWith : Layout → ℕ → ℕ → Bool
+isMadeWith Y d e = eqb e (compose Y (rightsOf Y e) d (frameOf Y e))
+
+-- "at level 1 it is a mapped host frame and D equals RW"
+unfoldable pub isLeaf : Layout → List ℕ → ℕ → Bool
+isLeaf Y map e = isMadeWith Y (bit e 1) e && isMapped map (frameOf Y e)
+
 module _ (M : Machine) where
-  -- "Shadow entries use the layout above, A always 1 in a present one; … unnamed bits are 0": an entry that is made of its
-  -- own rights and frame, of the D given, and of nothing else
-  abbrev pub isMadeWith : ℕ → ℕ → Bool
-  isMadeWith d e = eqb e (compose (M .tables) (rightsOf (M .tables) e) d (frameOf (M .tables) e))
-
-  -- "at level 1 it is a mapped host frame and D equals RW"
-  unfoldable pub isLeaf : List ℕ → ℕ → Bool
-  isLeaf map e = isMadeWith (bit e 1) e && isMapped map (frameOf (M .tables) e)
-
   -- "Above level 1 the frame is pool base + table number and D is 0"
   unfoldable pub isBranch : ℕ → Bool
-  isBranch e = isMadeWith 0 e && ltb (named M e) (tableCount M)
+  isBranch e = isMadeWith (M .tables) 0 e && ltb (named M e) (tableCount M)
 
   -- "absent is 0"; "a free table is all zeros"; here for an entry of a table of level l
-  abbrev pub isLaidOut : List ℕ → ℕ → ℕ → Bool
-  isLaidOut map l e = eqb e 0 || cond (eqb l 0) false (cond (eqb l 1) (isLeaf map e) (isBranch e))
+  unfoldable pub isLaidOut : List ℕ → ℕ → ℕ → Bool
+  isLaidOut map l e = eqb e 0 || cond (eqb l 0) false (cond (eqb l 1) (isLeaf (M .tables) map e) (isBranch e))
 
   -- "a present entry above level 1 names a table of the same share, one level lower"; here entry e of t
-  abbrev pub namesLower : List ℕ → ℕ → ℕ → Bool
+  unfoldable pub namesLower : List ℕ → ℕ → ℕ → Bool
   namesLower records t e =
       leb (levelOf records t) 1
       || eqb e 0
       || eqb (ownerOf M (named M e)) (ownerOf M t) && eqb (levelOf records (named M e) + 1) (levelOf records t)
 
   -- "The first is its root."
-  abbrev pub isRoot : ℕ → Bool
+  unfoldable pub isRoot : ℕ → Bool
   isRoot t = eqb t (rootOf M (ownerOf M t))
 
   -- how many entries name u
@@ -57,27 +57,28 @@ module _ (M : Machine) where
   -- "roots and only roots have level 4"
   -- "each other live table is named by exactly one entry"
   -- "shadowed frames are below G"
-  abbrev pub recordRight : Shadow → ℕ → Bool
-  recordRight s t =
-      leb (levelOf (s .records) t) (M .tables .levels)
-      && (not (isFree (s .records) t) || eqb (shadows (s .records) t .0) 0)
-      && Bool·beq (isRoot t) (eqb (levelOf (s .records) t) (M .tables .levels))
-      && (isRoot t || isFree (s .records) t || eqb (namesOf (s .pool) t) 1)
-      && ltb (shadows (s .records) t .0) (M .frames)
+  -- here with the number of entries that name the table
+  unfoldable pub recordRight : List ℕ → ℕ → ℕ → Bool
+  recordRight records names t =
+      leb (levelOf records t) (M .tables .levels)
+      && (not (isFree records t) || eqb (shadows records t .0) 0)
+      && Bool·beq (isRoot t) (eqb (levelOf records t) (M .tables .levels))
+      && (isRoot t || isFree records t || eqb names 1)
+      && ltb (shadows records t .0) (M .frames)
 
-  abbrev pub entryRight : List ℕ → Shadow → ℕ → ℕ → Bool
-  entryRight map s t i =
-      let e = entryOf M (s .pool) t i in
-      isLaidOut map (levelOf (s .records) t) e && namesLower (s .records) t e
+  unfoldable pub entryRight : List ℕ → List ℕ → ℕ → ℕ → Bool
+  entryRight map records t e = isLaidOut map (levelOf records t) e && namesLower records t e
 
   unfoldable pub tableRight : List ℕ → Shadow → ℕ → Bool
-  tableRight map s t = recordRight s t && all (entryCount M) (entryRight map s t)
+  tableRight map s t =
+      recordRight (s .records) (namesOf (s .pool) t) t
+      && all (entryCount M) (λ i. entryRight map (s .records) t (entryOf M (s .pool) t i))
 
   -- ---- whole tables
 
   -- "an entry is whole when it is absent, is a rightly laid out entry of level 1, or names a whole table"
   abbrev pub entryBy : List ℕ → (ℕ → Bool) → ℕ → ℕ → Bool
-  entryBy map whole l e = eqb e 0 || cond (eqb l 1) (isLeaf map e) (ltb (named M e) (tableCount M) && whole (named M e))
+  entryBy map whole l e = eqb e 0 || cond (eqb l 1) (isLeaf (M .tables) map e) (ltb (named M e) (tableCount M) && whole (named M e))
 
   -- "A table is whole when all its entries are": a table of level l
   unfoldable pub tableWhole : List ℕ → List ℕ → ℕ → ℕ → Bool
