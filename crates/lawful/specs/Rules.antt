@@ -93,10 +93,10 @@ module _ (M : Machine) where
   -- ---- what is asked of a slot
 
   -- "A partial slot stands on the table that its page reaches from the root, with that path's rights"
-  abbrev pub onItsPath : List ℕ → List ℕ → ℕ → ℕ → Bool
-  onItsPath pool slots p k =
-      let w = pathTo M pool p (pageIn slots p k) (markOf slots p k - 1) in
-      ltb (w .table) (tableCount M) && eqb (placeIn slots p k) (w .table) && eqb (rightsIn slots p k) (w .rights)
+  unfoldable pub isOnPath : List ℕ → ℕ → ℕ → ℕ → ℕ → ℕ → Bool
+  isOnPath pool p page level place rights =
+      let w = pathTo M pool p page level in
+      ltb (w .table) (tableCount M) && eqb place (w .table) && eqb rights (w .rights)
 
   -- "mark (0 empty, 1 complete, level+1 partial)"; "empty is 0, 0, 0"; "a slot's page is below 2^36"
   -- "a complete one names a frame below G"
@@ -105,7 +105,8 @@ module _ (M : Machine) where
       ltb (pageIn slots p k) (2 ^ (M .tables .indexBits * M .tables .levels))
       && cond (eqb (markOf slots p k) 0) (eqb (pageIn slots p k) 0 && eqb (placeIn slots p k) 0 && eqb (rightsIn slots p k) 0)
       (cond (eqb (markOf slots p k) 1) (ltb (placeIn slots p k) (M .frames))
-      (leb (markOf slots p k) (M .tables .levels + 1) && onItsPath pool slots p k))
+      (leb (markOf slots p k) (M .tables .levels + 1)
+      && isOnPath pool p (pageIn slots p k) (markOf slots p k - 1) (placeIn slots p k) (rightsIn slots p k)))
 
   -- ---- all of them; "every root is whole"
   unfoldable pub lawful : List ℕ → State → Bool
