@@ -4,3 +4,4 @@ pub mod Filling
 pub mod Walking
 pub mod Accesses
 pub mod Moves
+pub mod Sizing

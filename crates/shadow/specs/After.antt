@@ -113,6 +113,9 @@ dirtied Y q page last words =
     let i = index Y page 1 in
     cond (isWrite q) (put Y words (last .0) i (markD (get Y words (last .0) i))) words
 
+abbrev pub isBetween : ℕ → ℕ → ℕ → Bool
+isBetween lo hi x = leb lo x && leb x hi
+
 module _ (M : Machine) where
   -- "if present entries lead to a level 1 table, its entry becomes 0"
   unfoldable pub leafCleared : ℕ → ℕ → List ℕ → List ℕ
@@ -219,30 +222,27 @@ module _ (M : Machine) where
 
   -- ---- refusals
 
-  -- "1: a length, G, P, S … outside Sizes": "G 1..256, P 1..4, S 4..16. … Exact lengths: map G, …, pool 512×P×S, table
-  -- records 2×P×S, slots 24×P"
-  abbrev pub isBetween : ℕ → ℕ → ℕ → Bool
-  isBetween lo hi x = leb lo x && leb x hi
+  -- "1: a length, G, P, S … outside Sizes": "G 1..256, P 1..4, S 4..16"
+  unfoldable pub rangesFit : Bool
+  rangesFit = isBetween 1 256 (M .frames) && isBetween 1 4 (M .processors) && isBetween 4 16 (M .share)
 
-  abbrev pub sizesFit : List ℕ → Shadow → List ℕ → Bool
-  sizesFit map s slots =
-      isBetween 1 256 (M .frames)
-      && isBetween 1 4 (M .processors)
-      && isBetween 4 16 (M .share)
-      && eqb (length map) (M .frames)
+  -- "Exact lengths: map G, …, pool 512×P×S, table records 2×P×S, slots 24×P"
+  unfoldable pub lengthsFit : List ℕ → Shadow → List ℕ → Bool
+  lengthsFit map s slots =
+      eqb (length map) (M .frames)
       && eqb (length (s .pool)) (frameWords * tableCount M)
       && eqb (length (s .records)) (2 * tableCount M)
       && eqb (length slots) (24 * M .processors)
 
   -- "2: a map frame repeats, is 2^40 or more, or lies in the pool; or the pool passes 2^40"
-  abbrev pub inPool : ℕ → Bool
+  unfoldable pub poolFits : Bool
+  poolFits = leb (M .base + tableCount M) (2 ^ M .tables .frameBits)
+
+  unfoldable pub inPool : ℕ → Bool
   inPool f = leb (M .base) f && ltb f (M .base + tableCount M)
 
   unfoldable pub framesFit : List ℕ → Bool
-  framesFit map =
-      mapFits (2 ^ M .tables .frameBits) map
-      && all (length map) (λ i. not (inPool (getD map i 0)))
-      && leb (M .base + tableCount M) (2 ^ M .tables .frameBits)
+  framesFit map = poolFits && mapFits (2 ^ M .tables .frameBits) map && all (length map) (λ i. not (inPool (getD map i 0)))
 
   -- "12: still too few tables after emptying a share": S − 1 are free then, and as many are wanted as lie below the root
   abbrev pub tooFew : Bool
@@ -255,7 +255,7 @@ module _ (M : Machine) where
   unfoldable pub callRefusal : List ℕ → State → Event → ℕ
   callRefusal map s e =
       refusal
-      (test 1 (not (sizesFit map (s .shadow) (s .slots) && eqb (length (s .words)) (frameWords * M .frames)))
+      (test 1 (not (rangesFit && lengthsFit map (s .shadow) (s .slots) && eqb (length (s .words)) (frameWords * M .frames)))
       ∷ test 2 (not (framesFit map))
       ∷ test 3 (not (lawful M map s))
       ∷ eventTests (asSetup s) e ++ (test 12 tooFew ∷ []))
@@ -269,20 +269,25 @@ module _ (M : Machine) where
   -- ---- SETUP
 
   -- "pool, records and slots zero, roots at level 4 shadowing the given CR3"
+  unfoldable pub rooted : List ℕ → List ℕ → List ℕ
+  rooted cr3s records =
+      each (M .processors) (λ p. withRecord (rootOf M p) (M .tables .levels) (guest (getD cr3s p 0))) records
+
   abbrev pub started : List ℕ → List ℕ → State
   started cr3s words =
       stateOf words
-      (shadowOf (replicate (frameWords * tableCount M) 0)
-      (each (M .processors) (λ p. withRecord (rootOf M p) (M .tables .levels) (guest (getD cr3s p 0)))
-      (replicate (2 * tableCount M) 0)))
+      (shadowOf (replicate (frameWords * tableCount M) 0) (rooted cr3s (replicate (2 * tableCount M) 0)))
       (replicate (24 * M .processors) 0)
+
+  unfoldable pub cr3sFit : List ℕ → Bool
+  cr3sFit cr3s = all (M .processors) (λ p. ltb (getD cr3s p 0) (M .frames))
 
   unfoldable pub setupRefusal : List ℕ → List ℕ → State → ℕ
   setupRefusal map cr3s s =
       refusal
-      (test 1 (not (sizesFit map (s .shadow) (s .slots) && eqb (length cr3s) (M .processors)))
+      (test 1 (not (rangesFit && lengthsFit map (s .shadow) (s .slots) && eqb (length cr3s) (M .processors)))
       ∷ test 2 (not (framesFit map))
-      ∷ test 7 (not (all (M .processors) (λ p. ltb (getD cr3s p 0) (M .frames))))
+      ∷ test 7 (not (cr3sFit cr3s))
       ∷ [])
 
   unfoldable pub afterSetup : List ℕ → List ℕ → State → Result

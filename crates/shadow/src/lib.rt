@@ -1,14 +1,16 @@
 // The machine: setup, and one call for each event.
 ghost use mathlib.Core.Path.{_≡_};
-ghost use mathlib.Core.Bool.{_&&_};
-ghost use mathlib.Core.List.{List};
+ghost use mathlib.Core.Bool.{not, _&&_};
+ghost use mathlib.Core.List.{List, [], _∷_};
 ghost use Prim.Native.Nat.{ℕ, _+_, _*_, _^_, _<_, _≤_};
-ghost use lib.ListN.{length};
+ghost use lib.ListN.{length, getD};
+ghost use Rattle.paging.specs.Numbers.{all};
+ghost use Rattle.rules.specs.Refusal.{test, refusal};
 ghost use Rattle.paging.specs.Layout.{tables64, rightsOf, isPresent};
 ghost use Rattle.paging.specs.Request.{enough};
 ghost use Rattle.paging.specs.Walk.{meet};
 ghost use Rattle.tables.specs.State.{Shadow, shadowOf, State, stateOf, machine64, Sized, Room};
-ghost use Rattle.shadow.specs.After.{gives, afterStore, leafCleared, afterInvlpg, afterCr3, afterBegin, placeBelow, afterExtend, afterLoss, valueAt, dirtied, fill, afterMiss, afterAccess, decode, moved};
+ghost use Rattle.shadow.specs.After.{gives, afterStore, leafCleared, afterInvlpg, afterCr3, afterBegin, placeBelow, afterExtend, afterLoss, valueAt, dirtied, fill, afterMiss, afterAccess, decode, moved, isBetween, rangesFit, lengthsFit, poolFits, inPool, framesFit};
 ghost use Rattle.shadow.specs.Ready.{Ready, Standing, Fitting};
 use paging::Guest;
 use paging::Host;
@@ -293,4 +295,111 @@ fn take_step(
         6 => extend(map, pool, slots, z, p, e.a),
         _ => lose(slots, p, e.a),
     }
+}
+
+// ---- what is tested before
+
+fn is_between(lo: u64, hi: u64, x: u64) -> bool
+    ensures { λ r. ⌜ r ≡ isBetween lo hi x ⌝ }
+{
+    if x < lo {
+        return false;
+    }
+    x <= hi
+}
+
+fn ranges_fit(z: Sizes) -> bool
+    ensures { λ r. ⌜ r ≡ rangesFit (machine64 z) ⌝ }
+{
+    if !is_between(1, 256, z.frames) {
+        return false;
+    }
+    if !is_between(1, 4, z.processors) {
+        return false;
+    }
+    is_between(4, 16, z.share)
+}
+
+fn lengths_fit(map: &[u64], pool: &[u64], records: &[u64], slots: &[u64], z: Sizes) -> bool
+    requires { ⌜ (z .processors ≤ 4) × (z .processors * z .share ≤ 64) ⌝ }
+    ensures { λ r. ⌜ r ≡ lengthsFit (machine64 z) (now (map .entry)) (shadowOf (now (pool .entry)) (now (records .entry))) (now (slots .entry)) ⌝ }
+{
+    let n = (z.processors * z.share) as usize;
+    if map.len() != z.frames as usize {
+        return false;
+    }
+    if pool.len() != 512 * n {
+        return false;
+    }
+    if records.len() != 2 * n {
+        return false;
+    }
+    slots.len() == 24 * (z.processors as usize)
+}
+
+// The pool's end is found without a sum that may wrap.
+fn pool_fits(z: Sizes) -> bool
+    requires { ⌜ z .processors * z .share ≤ 64 ⌝ }
+    ensures { λ r. ⌜ r ≡ poolFits (machine64 z) ⌝ }
+{
+    if z.base > 0x100_0000_0000 {
+        return false;
+    }
+    z.base + z.processors * z.share <= 0x100_0000_0000
+}
+
+fn in_pool(z: Sizes, f: u64) -> bool
+    requires { ⌜ Sized z ⌝ }
+    ensures { λ r. ⌜ r ≡ inPool (machine64 z) f ⌝ }
+{
+    if f < z.base {
+        return false;
+    }
+    f < z.base + tables::table_count(z)
+}
+
+fn outside_pool(map: &[u64], z: Sizes) -> bool
+    requires { ⌜ Sized z ⌝ }
+    ensures { λ r. ⌜ r ≡ all (length (now (map .entry))) (λ i. not (inPool (machine64 z) (getD (now (map .entry)) i 0))) ⌝ }
+{
+    let mut i = 0;
+    while i < map.len() {
+        if in_pool(z, map[i]) {
+            return false;
+        }
+        i += 1;
+    }
+    true
+}
+
+// The lowest number of the tests that setup and the event call share: sizes, and the frames of map and pool.
+fn buffers_refusal(
+    map: &[u64],
+    pool: &[u64],
+    records: &[u64],
+    slots: &[u64],
+    z: Sizes,
+    other: bool,
+) -> u64
+    ensures { λ r. ⌜ r ≡ refusal (test 1 (not (rangesFit (machine64 z) && lengthsFit (machine64 z) (now (map .entry)) (shadowOf (now (pool .entry)) (now (records .entry))) (now (slots .entry)) && other)) ∷ test 2 (not (framesFit (machine64 z) (now (map .entry)))) ∷ []) ⌝ }
+{
+    if !ranges_fit(z) {
+        return 1;
+    }
+    if !lengths_fit(map, pool, records, slots, z) {
+        return 1;
+    }
+    if !other {
+        return 1;
+    }
+    if !pool_fits(z) {
+        return 2;
+    }
+    if !paging::map_fits(map) {
+        return 2;
+    }
+    if !outside_pool(map, z) {
+        return 2;
+    }
+    0
 }
