@@ -5,3 +5,4 @@ pub mod Walking
 pub mod Accesses
 pub mod Moves
 pub mod Sizing
+pub mod Accepted

@@ -2,6 +2,7 @@
 ghost use mathlib.Core.Path.{_≡_};
 ghost use mathlib.Core.Bool.{not, _&&_};
 ghost use mathlib.Core.List.{List, [], _∷_};
+ghost use lib.Dec.{eqb};
 ghost use Prim.Native.Nat.{ℕ, _+_, _*_, _^_, _<_, _≤_};
 ghost use lib.ListN.{length, getD};
 ghost use Rattle.paging.specs.Numbers.{all};
@@ -10,7 +11,7 @@ ghost use Rattle.paging.specs.Layout.{tables64, rightsOf, isPresent};
 ghost use Rattle.paging.specs.Request.{enough};
 ghost use Rattle.paging.specs.Walk.{meet};
 ghost use Rattle.tables.specs.State.{Shadow, shadowOf, State, stateOf, machine64, Sized, Room};
-ghost use Rattle.shadow.specs.After.{gives, afterStore, leafCleared, afterInvlpg, afterCr3, afterBegin, placeBelow, afterExtend, afterLoss, valueAt, dirtied, fill, afterMiss, afterAccess, decode, moved, isBetween, rangesFit, lengthsFit, poolFits, inPool, framesFit};
+ghost use Rattle.shadow.specs.After.{gives, afterStore, leafCleared, afterInvlpg, afterCr3, afterBegin, placeBelow, afterExtend, afterLoss, valueAt, dirtied, fill, afterMiss, afterAccess, decode, moved, isBetween, rangesFit, lengthsFit, poolFits, inPool, framesFit, callRefusal, after};
 ghost use Rattle.shadow.specs.Ready.{Ready, Standing, Fitting};
 use paging::Guest;
 use paging::Host;
@@ -402,4 +403,62 @@ fn buffers_refusal(
         return 2;
     }
     0
+}
+
+fn words_fit(words: &[u64], frames: u64) -> bool
+    ensures { λ r. ⌜ r ≡ eqb (length (now (words .entry))) (512 * frames) ⌝ }
+{
+    if words.len() % 512 != 0 {
+        return false;
+    }
+    (words.len() / 512) as u64 == frames
+}
+
+// The lowest number under which an event call is refused; 0 if it is accepted.
+fn call_refusal(
+    map: &[u64],
+    words: &[u64],
+    pool: &[u64],
+    records: &[u64],
+    slots: &[u64],
+    z: Sizes,
+    e: Event,
+) -> u64
+    ensures { λ r. ⌜ r ≡ callRefusal (machine64 z) (now (map .entry)) (stateOf (now (words .entry)) (shadowOf (now (pool .entry)) (now (records .entry))) (now (slots .entry))) e ⌝ }
+{
+    let fits = words_fit(words, z.frames);
+    let n = buffers_refusal(map, pool, records, slots, z, fits);
+    if n != 0 {
+        return n;
+    }
+    if !lawful::is_lawful(map, pool, records, slots, z) {
+        return 3;
+    }
+    let m = rules::event_refusal(z.frames, z.processors, e);
+    if m != 0 {
+        return m;
+    }
+    if z.share - 1 < 3 {
+        return 12;
+    }
+    0
+}
+
+// One event. A refusal changes nothing.
+pub fn event(
+    map: &[u64],
+    words: &mut [u64],
+    pool: &mut [u64],
+    records: &mut [u64],
+    slots: &mut [u64],
+    z: Sizes,
+    e: Event,
+) -> Answer
+    ensures { λ r. ⌜ gives r (stateOf (now (words .exit)) (shadowOf (now (pool .exit)) (now (records .exit))) (now (slots .exit))) ≡ after (machine64 z) (now (map .entry)) (stateOf (now (words .entry)) (shadowOf (now (pool .entry)) (now (records .entry))) (now (slots .entry))) e ⌝ }
+{
+    let n = call_refusal(map, words, pool, records, slots, z, e);
+    if n != 0 {
+        return Answer::Refused(n);
+    }
+    take_step(map, words, pool, records, slots, z, e)
 }
