@@ -6,3 +6,4 @@ pub mod Accesses
 pub mod Moves
 pub mod Sizing
 pub mod Accepted
+pub mod Starting

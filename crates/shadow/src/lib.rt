@@ -4,14 +4,14 @@ ghost use mathlib.Core.Bool.{not, _&&_};
 ghost use mathlib.Core.List.{List, [], _∷_};
 ghost use lib.Dec.{eqb};
 ghost use Prim.Native.Nat.{ℕ, _+_, _*_, _^_, _<_, _≤_};
-ghost use lib.ListN.{length, getD};
+ghost use lib.ListN.{length, getD, replicate};
 ghost use Rattle.paging.specs.Numbers.{all};
 ghost use Rattle.rules.specs.Refusal.{test, refusal};
 ghost use Rattle.paging.specs.Layout.{tables64, rightsOf, isPresent};
 ghost use Rattle.paging.specs.Request.{enough};
 ghost use Rattle.paging.specs.Walk.{meet};
 ghost use Rattle.tables.specs.State.{Shadow, shadowOf, State, stateOf, machine64, Sized, Room};
-ghost use Rattle.shadow.specs.After.{gives, afterStore, leafCleared, afterInvlpg, afterCr3, afterBegin, placeBelow, afterExtend, afterLoss, valueAt, dirtied, fill, afterMiss, afterAccess, decode, moved, isBetween, rangesFit, lengthsFit, poolFits, inPool, framesFit, callRefusal, after};
+ghost use Rattle.shadow.specs.After.{gives, afterStore, leafCleared, afterInvlpg, afterCr3, afterBegin, placeBelow, afterExtend, afterLoss, valueAt, dirtied, fill, afterMiss, afterAccess, decode, moved, isBetween, rangesFit, lengthsFit, poolFits, inPool, framesFit, callRefusal, after, rooted, cr3sFit, setupRefusal, afterSetup};
 ghost use Rattle.shadow.specs.Ready.{Ready, Standing, Fitting};
 use paging::Guest;
 use paging::Host;
@@ -461,4 +461,86 @@ pub fn event(
         return Answer::Refused(n);
     }
     take_step(map, words, pool, records, slots, z, e)
+}
+
+// ---- setup
+
+fn cr3s_fit(cr3s: &[u64], z: Sizes) -> bool
+    requires { ⌜ (length (now cr3s) ≡ z .processors) × (z .processors ≤ 4) ⌝ }
+    ensures { λ r. ⌜ r ≡ cr3sFit (machine64 z) (now (cr3s .entry)) ⌝ }
+{
+    let mut p = 0;
+    while p < cr3s.len() {
+        if cr3s[p] >= z.frames {
+            return false;
+        }
+        p += 1;
+    }
+    true
+}
+
+fn setup_refusal(
+    map: &[u64],
+    cr3s: &[u64],
+    pool: &[u64],
+    records: &[u64],
+    slots: &[u64],
+    z: Sizes,
+) -> u64
+    ensures { λ r. ⌜ r ≡ setupRefusal (machine64 z) (now (map .entry)) (now (cr3s .entry)) (stateOf [] (shadowOf (now (pool .entry)) (now (records .entry))) (now (slots .entry))) ⌝ }
+{
+    let fits = cr3s.len() as u64 == z.processors;
+    let n = buffers_refusal(map, pool, records, slots, z, fits);
+    if n != 0 {
+        return n;
+    }
+    if !cr3s_fit(cr3s, z) {
+        return 7;
+    }
+    0
+}
+
+fn zero(buffer: &mut [u64])
+    ensures { λ _. ⌜ now (buffer .exit) ≡ replicate (length (now (buffer .entry))) 0 ⌝ }
+{
+    let mut i = 0;
+    while i < buffer.len() {
+        buffer[i] = 0;
+        i += 1;
+    }
+}
+
+// Each root gets its level and its CR3.
+fn set_roots(cr3s: &[u64], records: &mut [u64], z: Sizes)
+    requires { ⌜ Room z (now records) ⌝ }
+    requires { ⌜ length (now cr3s) ≡ z .processors ⌝ }
+    ensures { λ _. ⌜ now (records .exit) ≡ rooted (machine64 z) (now (cr3s .entry)) (now (records .entry)) ⌝ }
+{
+    let mut p = 0;
+    while p < z.processors {
+        tables::set_record(records, tables::root_of(z, p), 4, Guest(cr3s[p as usize]));
+        p += 1;
+    }
+}
+
+// Pool, records and slots zero, roots at level 4 shadowing the given CR3s. A refusal changes nothing.
+pub fn setup(
+    map: &[u64],
+    cr3s: &[u64],
+    pool: &mut [u64],
+    records: &mut [u64],
+    slots: &mut [u64],
+    z: Sizes,
+) -> Answer
+    ensures { λ r. ⌜ gives r (stateOf [] (shadowOf (now (pool .exit)) (now (records .exit))) (now (slots .exit))) ≡ afterSetup (machine64 z) (now (map .entry)) (now (cr3s .entry)) (stateOf [] (shadowOf (now (pool .entry)) (now (records .entry))) (now (slots .entry))) ⌝ }
+{
+    let n = setup_refusal(map, cr3s, pool, records, slots, z);
+    if n != 0 {
+        return Answer::Refused(n);
+    }
+    zero(pool);
+    zero(records);
+    zero(slots);
+    set_roots(cr3s, records, z);
+    Answer::Done
 }
