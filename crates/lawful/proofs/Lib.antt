@@ -1,0 +1,4 @@
+pub mod Records
+pub mod Tallies
+pub mod Wholes
+pub mod Slots

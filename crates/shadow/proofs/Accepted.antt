@@ -1,0 +1,265 @@
+-- A call that no test refuses: what it is known to be. And how the tables of tests are joined.
+use mathlib.Core.Path.{_≡_, refl, sym, ap, _∙_}
+use mathlib.Core.Bool.{Bool, true, false, cond, not, _&&_, _||_, Bool·beq}
+use mathlib.Core.List.{List, [], _∷_, _++_}
+use Prim.Native.Nat.{ℕ, zero, suc, _+_, _-_, _*_, _/_, _%_, _^_, _<_, _≤_}
+use native.Mathlib.Omega.{arith}
+use lib.Dec.{eqb, ltb, leb}
+use lib.ListN.{length, getD}
+use borrow.Author.Tests.{eq-eqb, ne-eqb, lt-ltb, le-ltb, eqb-true, eqb-false, ltb-true, ltb-false, leb-true, leb-false, not-false}
+use Rattle.paging.specs.Layout.{frameWords, tables64}
+use Rattle.paging.specs.Frame.{mapFits}
+use Rattle.paging.specs.Numbers.{all}
+use Rattle.paging.proofs.Numbers.{all-at}
+use Rattle.rules.specs.declared.Event.{Event}
+use Rattle.rules.specs.Refusal.{Test, test, refusal}
+use Rattle.rules.specs.History.{isStore, isInvlpg, isCr3Write, isAccess, isBegin, isExtend, isDrop, eventTests, eventRefusal}
+use Rattle.rules.proofs.Ranges.{Clear, clear, event-clear}
+use Rattle.tables.specs.declared.Sizes.{Sizes}
+use Rattle.tables.specs.declared.Path.{Path}
+use Rattle.tables.specs.State.{Machine, Shadow, State, machine64, tableCount, rootOf, entryOf, levelOf, shadows, isFree, markOf, pageIn, placeIn, rightsIn, pathTo, Sized}
+use Rattle.tables.proofs.Names.{few, root-small}
+use Rattle.lawful.specs.Rules.{lawful, tableRight, tableWhole, recordRight, entryRight, isRoot, namesOf, slotRight, isOnPath}
+use Rattle.shadow.specs.After.{asSetup, rangesFit, lengthsFit, poolFits, inPool, framesFit, tooFew, callRefusal}
+use Rattle.shadow.specs.Ready.{Ready, Standing, Fitting}
+use Rattle.shadow.proofs.Sizing.{both, Ranged, ranged, sized, Exact, exact, hosts-below}
+
+-- ---- tables of tests
+
+-- what follows a test that is met is not looked at
+pub first-two : (a b : Bool) (rest : List Test) → (refusal (test 1 a ∷ test 2 b ∷ []) ≡ 0 → ⊥) → refusal (test 1 a ∷ test 2 b ∷ []) ≡ refusal (test 1 a ∷ test 2 b ∷ rest)
+unfolding refusal
+first-two true b rest some = refl
+first-two false true rest some = refl
+first-two false false rest some = absurd (some refl)
+
+pub neither : (a b : Bool) → refusal (test 1 (not a) ∷ test 2 (not b) ∷ []) ≡ 0 → (a ≡ true) × (b ≡ true)
+unfolding refusal
+neither true true e = (refl, refl)
+neither true false e = absurd (omega arith)
+neither false b e = absurd (omega arith)
+
+pub refusal-more : (ts us : List Test) → {n : ℕ} → n ≡ refusal ts → (n ≡ 0 → ⊥) → n ≡ refusal (ts ++ us)
+unfolding refusal
+refusal-more [] us e some = absurd (some e)
+refusal-more (t ∷ ts) us {n} e some = go (t .met) refl (refusal-more ts us)
+  where
+    go : (b : Bool) → t .met ≡ b → ((e : n ≡ refusal ts) → (n ≡ 0 → ⊥) → n ≡ refusal (ts ++ us)) → n ≡ cond b (t .number) (refusal (ts ++ us))
+    go true q more = e ∙ ap (λ (b : Bool). cond b (t .number) (refusal ts)) q
+    go false q more = more (e ∙ ap (λ (b : Bool). cond b (t .number) (refusal ts)) q) some
+
+pub refusal-then : (ts us : List Test) → Clear ts → refusal (ts ++ us) ≡ refusal us
+unfolding refusal
+refusal-then [] us c = refl
+refusal-then (t ∷ ts) us c = ap (λ (b : Bool). cond b (t .number) (refusal (ts ++ us))) (c .0) ∙ refusal-then ts us (c .1)
+
+-- ---- what tests say that are not met
+
+no-and : (a b : Bool) → a && b ≡ false → a ≡ true → b ≡ false
+no-and true b e q = e
+no-and false b e q = let z : _≡_ {A = ℕ} 0 1 = cc in absurd (omega arith)
+
+no-or : (a b : Bool) → (a || b) ≡ false → (a ≡ false) × (b ≡ false)
+no-or true b e = let z : _≡_ {A = ℕ} 0 1 = cc in absurd (omega arith)
+no-or false b e = (refl, e)
+
+or-true : (a b : Bool) → b ≡ true → (a || b) ≡ true
+or-true true b q = refl
+or-true false b q = q
+
+some-kind : (n : ℕ) → eqb n 0 ≡ false → 1 ≤ n
+some-kind zero e = let z : _≡_ {A = ℕ} 0 1 = cc in absurd (omega arith)
+some-kind (suc n) e = omega arith
+
+-- ---- slots and roots of a lawful state
+
+module _ (z : Sizes) (ok : Sized z) (pool slots : List ℕ) (p k : ℕ) where
+  on-path-small : (page level place rights : ℕ) → isOnPath (machine64 z) pool p page level place rights ≡ true → place < 2 ^ 40
+  unfolding isOnPath
+  on-path-small page level place rights e =
+      let w = pathTo (machine64 z) pool p page level in
+      let h = both (ltb (w .table) (tableCount (machine64 z)) && eqb place (w .table)) (eqb rights (w .rights)) e in
+      let g = both (ltb (w .table) (tableCount (machine64 z))) (eqb place (w .table)) (h .0) in
+      omega (arith, ltb-true (w .table) (tableCount (machine64 z)) (g .0), eqb-true place (w .table) (g .1), few ok)
+
+  pub standing : slotRight (machine64 z) pool slots p k ≡ true → Standing slots p k
+  unfolding slotRight
+  standing e =
+      go (eqb (markOf slots p k) 0) (eqb (markOf slots p k) 1) refl refl
+      (both (ltb (pageIn slots p k) (2 ^ 36)) _ e .1)
+    where
+      go : (a b : Bool) → eqb (markOf slots p k) 0 ≡ a → eqb (markOf slots p k) 1 ≡ b
+          → cond a (eqb (pageIn slots p k) 0 && eqb (placeIn slots p k) 0 && eqb (rightsIn slots p k) 0)
+          (cond b (ltb (placeIn slots p k) (z .frames))
+          (leb (markOf slots p k) 5 && isOnPath (machine64 z) pool p (pageIn slots p k) (markOf slots p k - 1) (placeIn slots p k) (rightsIn slots p k))) ≡ true
+          → Standing slots p k
+      go true b ea eb h = let q = eqb-true (markOf slots p k) 0 ea in record { level = omega arith; table = λ l. absurd (omega arith) }
+      go false true ea eb h = let q = eqb-true (markOf slots p k) 1 eb in record { level = omega arith; table = λ l. absurd (omega arith) }
+      go false false ea eb h =
+          let g = both (leb (markOf slots p k) 5) (isOnPath (machine64 z) pool p (pageIn slots p k) (markOf slots p k - 1) (placeIn slots p k) (rightsIn slots p k)) h in
+          record {
+            level = leb-true (markOf slots p k) 5 (g .0);
+            table = λ l. on-path-small (pageIn slots p k) (markOf slots p k - 1) (placeIn slots p k) (rightsIn slots p k) (g .1);
+          }
+
+pub shadows-within : (z : Sizes) (map : List ℕ) (s : Shadow) (t : ℕ) → tableRight (machine64 z) map s t ≡ true → shadows (s .records) t .0 < z .frames
+unfolding tableRight recordRight
+shadows-within z map s t e =
+    let M = machine64 z in
+    let records = s .records in
+    let h = both (recordRight M records (namesOf M (s .pool) t) t) (all 512 (λ i. entryRight M map records t (entryOf M (s .pool) t i))) e .0 in
+    ltb-true (shadows records t .0) (z .frames)
+    (both (leb (levelOf records t) 4 && (not (isFree records t) || eqb (shadows records t .0) 0) && Bool·beq (isRoot M t) (eqb (levelOf records t) 4) && (isRoot M t || isFree records t || eqb (namesOf M (s .pool) t) 1))
+    (ltb (shadows records t .0) (z .frames)) h .1)
+
+-- ---- the number of a call, test by test
+
+module _ (z : Sizes) (map : List ℕ) (s : State) (e : Event) {w : Bool} (ew : w ≡ eqb (length (s .words)) (frameWords * z .frames)) where
+  abbrev sizes : Bool → Bool
+  sizes b = rangesFit (machine64 z) && lengthsFit (machine64 z) map (s .shadow) (s .slots) && b
+
+  abbrev later : List Test
+  later = test 3 (not (lawful (machine64 z) map s)) ∷ eventTests (asSetup (machine64 z) s) e ++ (test 12 (tooFew (machine64 z)) ∷ [])
+
+  pub call-early : {n : ℕ} → n ≡ refusal (test 1 (not (sizes w)) ∷ test 2 (not (framesFit (machine64 z) map)) ∷ []) → (n ≡ 0 → ⊥) → n ≡ callRefusal (machine64 z) map s e
+  unfolding callRefusal
+  call-early en some =
+      en ∙ first-two (not (sizes w)) (not (framesFit (machine64 z) map)) later (λ q. some (en ∙ q))
+      ∙ ap (λ (b : Bool). refusal (test 1 (not (sizes b)) ∷ test 2 (not (framesFit (machine64 z) map)) ∷ later)) ew
+
+  module _ (none : 0 ≡ refusal (test 1 (not (sizes w)) ∷ test 2 (not (framesFit (machine64 z) map)) ∷ [])) where
+    shown : (sizes w ≡ true) × (framesFit (machine64 z) map ≡ true)
+    shown = neither (sizes w) (framesFit (machine64 z) map) (sym none)
+
+    passed : refusal later ≡ callRefusal (machine64 z) map s e
+    unfolding callRefusal refusal
+    passed = sym (simp (sym ew, shown .0, shown .1))
+
+    pub call-sized : Sized z
+    unfolding framesFit
+    call-sized =
+        let h = both (rangesFit (machine64 z) && lengthsFit (machine64 z) map (s .shadow) (s .slots)) w (shown .0) in
+        let g = both (poolFits (machine64 z) && mapFits (2 ^ 40) map) (all (length map) (λ i. not (inPool (machine64 z) (getD map i 0)))) (shown .1) in
+        sized z (ranged z (both (rangesFit (machine64 z)) (lengthsFit (machine64 z) map (s .shadow) (s .slots)) (h .0) .0)) (both (poolFits (machine64 z)) (mapFits (2 ^ 40) map) (g .0) .0)
+
+    pub call-triples : length (s .slots) ≡ 24 * z .processors
+    call-triples =
+        let h = both (rangesFit (machine64 z) && lengthsFit (machine64 z) map (s .shadow) (s .slots)) w (shown .0) in
+        exact z map (s .shadow) (s .slots) (both (rangesFit (machine64 z)) (lengthsFit (machine64 z) map (s .shadow) (s .slots)) (h .0) .1) .triples
+
+    pub call-unlawful : lawful (machine64 z) map s ≡ false → 3 ≡ callRefusal (machine64 z) map s e
+    unfolding refusal
+    call-unlawful q = simp q at passed
+
+    module _ (right : lawful (machine64 z) map s ≡ true) where
+      pub call-event : {m : ℕ} → m ≡ eventRefusal (asSetup (machine64 z) s) e → (m ≡ 0 → ⊥) → m ≡ callRefusal (machine64 z) map s e
+      unfolding refusal eventRefusal
+      call-event em some = refusal-more (eventTests (asSetup (machine64 z) s) e) (test 12 (tooFew (machine64 z)) ∷ []) em some ∙ (simp right at passed)
+
+      module _ (fits : 0 ≡ eventRefusal (asSetup (machine64 z) s) e) where
+        last : refusal (test 12 (tooFew (machine64 z)) ∷ []) ≡ callRefusal (machine64 z) map s e
+        unfolding refusal
+        last =
+            sym (refusal-then (eventTests (asSetup (machine64 z) s) e) (test 12 (tooFew (machine64 z)) ∷ []) (event-clear (asSetup (machine64 z) s) e (sym fits)))
+            ∙ (simp right at passed)
+
+        pub call-few : z .share - 1 < 3 → 12 ≡ callRefusal (machine64 z) map s e
+        unfolding refusal
+        call-few h = simp (lt-ltb (z .share - 1) 3 h) at last
+
+        pub call-accepted : 3 ≤ z .share - 1 → 0 ≡ callRefusal (machine64 z) map s e
+        unfolding refusal
+        call-accepted h = simp (le-ltb (z .share - 1) 3 h) at last
+
+-- ---- an accepted call
+
+module _ (z : Sizes) (map : List ℕ) (s : State) (e : Event) where
+  abbrev M : Machine
+  M = machine64 z
+
+  abbrev tests : List Test
+  tests =
+      test 1 (not (rangesFit M && lengthsFit M map (s .shadow) (s .slots) && eqb (length (s .words)) (frameWords * z .frames)))
+      ∷ test 2 (not (framesFit M map))
+      ∷ test 3 (not (lawful M map s))
+      ∷ eventTests (asSetup M s) e ++ (test 12 (tooFew M) ∷ [])
+
+  module _ (ok : callRefusal M map s e ≡ 0) where
+    none-met : Clear tests
+    unfolding callRefusal
+    none-met =
+        clear tests
+        (omega arith, (omega arith, (omega arith, (omega arith, (omega arith, (omega arith, (omega arith, (omega arith, (omega arith, (omega arith, (omega arith, tt)))))))))))
+        ok
+
+    lengths : (rangesFit M ≡ true) × (lengthsFit M map (s .shadow) (s .slots) ≡ true) × (length (s .words) ≡ frameWords * z .frames)
+    lengths =
+        let h = both (rangesFit M && lengthsFit M map (s .shadow) (s .slots)) (eqb (length (s .words)) (frameWords * z .frames)) (not-false _ (none-met .0)) in
+        let g = both (rangesFit M) (lengthsFit M map (s .shadow) (s .slots)) (h .0) in
+        (g .0, g .1, eqb-true (length (s .words)) (frameWords * z .frames) (h .1))
+
+    pub accepted-ranged : Ranged z
+    accepted-ranged = ranged z (lengths .0)
+
+    pub accepted-exact : Exact z map (s .shadow) (s .slots)
+    accepted-exact = exact z map (s .shadow) (s .slots) (lengths .1)
+
+    pub accepted-words : length (s .words) ≡ frameWords * z .frames
+    accepted-words = lengths .2
+
+    frames : (poolFits M ≡ true) × (mapFits (2 ^ 40) map ≡ true)
+    unfolding framesFit
+    frames =
+        let h = both (poolFits M && mapFits (2 ^ 40) map) (all (length map) (λ i. not (inPool M (getD map i 0)))) (not-false _ (none-met .1 .0)) in
+        both (poolFits M) (mapFits (2 ^ 40) map) (h .0)
+
+    pub accepted-sized : Sized z
+    accepted-sized = sized z accepted-ranged (frames .0)
+
+    pub accepted-map : mapFits (2 ^ 40) map ≡ true
+    accepted-map = frames .1
+
+    pub accepted-lawful : lawful M map s ≡ true
+    accepted-lawful = not-false _ (none-met .1 .1 .0)
+
+    pub accepted-own : e .proc < z .processors
+    accepted-own = leb-false (z .processors) (e .proc) (none-met .1 .1 .1 .0)
+
+    by-rule : (all (tableCount M) (tableRight M map (s .shadow)) ≡ true) × (all (z .processors) (λ p. all 8 (slotRight M (s .shadow .pool) (s .slots) p)) ≡ true)
+    unfolding lawful
+    by-rule =
+        let h = both (all (tableCount M) (tableRight M map (s .shadow)) && all (z .processors) (λ p. tableWhole M map (s .shadow .pool) 4 (rootOf M p))) (all (z .processors) (λ p. all 8 (slotRight M (s .shadow .pool) (s .slots) p))) accepted-lawful in
+        (both (all (tableCount M) (tableRight M map (s .shadow))) (all (z .processors) (λ p. tableWhole M map (s .shadow .pool) 4 (rootOf M p))) (h .0) .0, h .1)
+
+    pub ready : Ready z map (s .shadow .records) (s .slots) (e .proc)
+    ready =
+        let own = accepted-own in
+        let x = accepted-exact in
+        let r = accepted-ranged in
+        let root = root-small accepted-sized (e .proc) own in
+        record {
+          sized = accepted-sized;
+          spare = r .share .0;
+          own = own;
+          guests = omega (arith, x .guests, r .frames);
+          hosts = hosts-below (2 ^ 40) (omega arith) map accepted-map;
+          pairs = x .pairs;
+          triples = omega (arith, x .triples);
+          cr3 = omega (arith, shadows-within z map (s .shadow) (rootOf M (e .proc)) (all-at (tableRight M map (s .shadow)) (tableCount M) (by-rule .0) (rootOf M (e .proc)) root), r .frames);
+        }
+
+    pub fitting : Fitting (s .words) (s .slots) e
+    fitting =
+        let t = none-met .1 .1 .1 in
+        let kinds = no-or (eqb (e .kind) 0 || ltb 7 (e .kind)) _ (t .1 .1 .1 .1 .1 .1 .0) .0 in
+        let kind = no-or (eqb (e .kind) 0) (ltb 7 (e .kind)) kinds in
+        let slot = no-or (isBegin e && ltb 7 (e .b)) ((isExtend e || isDrop e) && ltb 7 (e .a)) (t .1 .1 .1 .1 .1 .0) in
+        record {
+          kind = (some-kind (e .kind) (kind .0), ltb-false 7 (e .kind) (kind .1));
+          stores = λ q. omega (arith, accepted-words, leb-false (frameWords * z .frames) (e .a) (no-and (isStore e) _ (t .1 .1 .1 .1 .0) (eq-eqb (e .kind) 1 q)));
+          requests = λ q. omega (arith, ltb-false 5 (e .b) (no-and (isAccess e) _ (t .1 .1 .0) (eq-eqb (e .kind) 4 q)));
+          begins = λ q. omega (arith, ltb-false 7 (e .b) (no-and (isBegin e) _ (slot .0) (eq-eqb (e .kind) 5 q)));
+          extends = λ q. omega (arith, ltb-false 7 (e .a) (no-and (isExtend e || isDrop e) _ (slot .1) (ap (λ (b : Bool). b || isDrop e) (eq-eqb (e .kind) 6 q))));
+          loses = λ q. omega (arith, ltb-false 7 (e .a) (no-and (isExtend e || isDrop e) _ (slot .1) (or-true (isExtend e) (isDrop e) (eq-eqb (e .kind) 7 q))));
+          stands = λ k h. standing z accepted-sized (s .shadow .pool) (s .slots) (e .proc) k (all-at (slotRight M (s .shadow .pool) (s .slots) (e .proc)) 8 (all-at (λ p. all 8 (slotRight M (s .shadow .pool) (s .slots) p)) (z .processors) (by-rule .1) (e .proc) accepted-own) k h);
+        }
