@@ -1,4 +1,4 @@
-// The text read number by number: a cursor by value, past the blanks, the next number.
+// The text read number by number: past the blanks, the next number; first by value, then over a lent cursor.
 ghost use mathlib.Core.Path.{_≡_};
 ghost use Prim.Native.Nat.{_≤_};
 ghost use lib.ListN.{length};
@@ -120,4 +120,23 @@ pub fn next_lent(text: &[u8], c: &mut Cursor) -> Next
     let after = past(n, here);
     *c = after;
     n
+}
+
+// The reader's step past blanks: it lends a cursor of its own, so that no caller needs a proof by hand.
+pub fn skip_from(text: &[u8], c: Cursor) -> Cursor
+    requires { ⌜ Stands (now text) c ⌝ }
+    ensures { λ r. ⌜ r ≡ cursorAt (now (text .entry)) (pastBlanks (now (text .entry)) (c .at)) ⌝ }
+{
+    let mut here = c;
+    skip_lent(text, &mut here);
+    here
+}
+
+// The reader's step to the next number, likewise.
+pub fn next_from(text: &[u8], c: Cursor) -> Next
+    requires { ⌜ Stands (now text) c ⌝ }
+    ensures { λ r. ⌜ r ≡ nextAt (now (text .entry)) (c .at) ⌝ }
+{
+    let mut here = c;
+    next_lent(text, &mut here)
 }

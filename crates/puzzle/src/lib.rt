@@ -28,7 +28,7 @@ fn finish(text: &[u8], c: Cursor, counts: ReadResult) -> ReadResult
     requires { ⌜ Stands (now text) c ⌝ }
     ensures { λ r. ⌜ EndIs (now (text .entry)) (c .at) counts r ⌝ }
 {
-    let end = cursor::skip(text, c);
+    let end = cursor::skip_from(text, c);
     if end.at < text.len() {
         return ReadResult::Refused(10, end.line);
     }

@@ -183,7 +183,7 @@ fn read_numbers(
     let mut c = from;
     let mut i = 0;
     while i < n {
-        match cursor::next_number(text, c) {
+        match cursor::next_from(text, c) {
             Next::Bad(line) => {
                 return Part::Refused(10, line);
             }
@@ -205,7 +205,7 @@ pub fn read(text: &[u8], from: Cursor, which: Section, g: u64, p: u64, buffer: &
     requires { ⌜ Stands (now text) from × (g ≤ 16) × (length (now buffer) ≡ capacity which) ⌝ }
     ensures { λ r. ⌜ PartIs (section which g p (now (text .entry)) (from .at)) (width which) (now (text .entry)) (now (buffer .entry)) (now (buffer .exit)) r ⌝ }
 {
-    match cursor::next_number(text, from) {
+    match cursor::next_from(text, from) {
         Next::Bad(line) => Part::Refused(10, line),
         Next::Number(count, c) => {
             if !in_count_range(which, g, count) {

@@ -18,13 +18,13 @@ returns c =
     let a = c .before .before .before .before .before .before .before .before .args in
     part-by
     (section-refused (a .which) (a .g) (a .p) (a .text .now) (a .from .at)
-    (due-out (countRange (a .which) (a .g)) (a .text .now) (a .from .at) (sym (c .before .before .before .count .given .1) ∙ c .before .before .before .before .before .next-number .ensures) (sym (c .before .in-count-range .ensures) ∙ not-true _ (c .if1 .taken))))
+    (due-out (countRange (a .which) (a .g)) (a .text .now) (a .from .at) (sym (c .before .before .before .count .given .1) ∙ c .before .before .before .before .before .next-from .ensures) (sym (c .before .in-count-range .ensures) ∙ not-true _ (c .if1 .taken))))
 
 read-numbers-requires : tie.Need-read-numbers-requires
 read-numbers-requires c κs =
     let a = c .before .before .before .before .before .before .before .before .before .args in
     let p = c .before .before .before .before .before .before .before .before .before .pre in (
-      next-stands (a .text .now) (a .from .at) (p .0 .inside) (sym (c .before .before .before .before .count .given .1) ∙ c .before .before .before .before .before .before .next-number .ensures),
+      next-stands (a .text .now) (a .from .at) (p .0 .inside) (sym (c .before .before .before .before .count .given .1) ∙ c .before .before .before .before .before .before .next-from .ensures),
       p .1,
       omega (arith, p .2, count-fits (a .which) (a .g) (c .before .before .before .before .count .given .0 .0) (p .1) (sym (c .before .before .in-count-range .ensures) ∙ not-false _ (c .before .if1 .left))),
     )
@@ -34,14 +34,14 @@ returns-2 c =
     let a = c .before .before .before .before .before .before .args in
     part-by
     (section-refused (a .which) (a .g) (a .p) (a .text .now) (a .from .at)
-    (due-bad (countRange (a .which) (a .g)) (a .text .now) (a .from .at) (sym (c .before .line .given .1) ∙ c .before .before .before .next-number .ensures)))
+    (due-bad (countRange (a .which) (a .g)) (a .text .now) (a .from .at) (sym (c .before .line .given .1) ∙ c .before .before .before .next-from .ensures)))
 
 returns-3 : tie.Need-returns-3
 returns-3 c =
     let a = c .before .before .before .before .before .before .before .before .before .before .before .before .args in
     subst (λ (m : Got (List ℕ)). PartIs m (width (a .which)) (a .text .now) (a .buffer .now) (c .before .before .read-numbers .last .1 .1 .1 .1 .1 .1 .0) (c .before .before .read-numbers .result))
     (sym (section-counted (a .which) (a .g) (a .p) (a .text .now) (a .from .at)
-    (due-in (countRange (a .which) (a .g)) (a .text .now) (a .from .at) (sym (c .before .before .before .before .before .before .before .count .given .1) ∙ c .before .before .before .before .before .before .before .before .before .next-number .ensures) (sym (c .before .before .before .before .before .in-count-range .ensures) ∙ not-false _ (c .before .before .before .before .if1 .left)))))
+    (due-in (countRange (a .which) (a .g)) (a .text .now) (a .from .at) (sym (c .before .before .before .before .before .before .before .count .given .1) ∙ c .before .before .before .before .before .before .before .before .before .next-from .ensures) (sym (c .before .before .before .before .before .in-count-range .ensures) ∙ not-false _ (c .before .before .before .before .if1 .left)))))
     (c .before .before .read-numbers .ensures)
 
 pub read-spec : {M : Type 1} → statement M

@@ -34,19 +34,19 @@ returns c =
     let l = c .before .before .before .before .before .loop in
     part-by
     (subst (λ (k : ℕ). numbers (inRange (c .before .before .before .before .before .before .before .before .before .args .which) (c .before .before .before .before .before .before .before .before .before .args .g) (c .before .before .before .before .before .before .before .before .before .args .p)) (c .before .before .before .before .before .before .before .before .before .args .text .now) k [] (c .before .before .before .before .before .before .before .before .before .args .from .at) ≡ refused 10 (c .before .line .given .0 .0)) (l .inv .0)
-    (turn-bad (l .inv .1) (c .before .before .before .before .loop-test .taken) (sym (c .before .line .given .1) ∙ c .before .before .before .next-number .ensures)))
+    (turn-bad (l .inv .1) (c .before .before .before .before .loop-test .taken) (sym (c .before .line .given .1) ∙ c .before .before .before .next-from .ensures)))
 
 returns-2 : tie.Need-returns-2 Inv-loop μ-loop
 returns-2 c =
     let l = c .before .before .before .before .before .before .before .before .loop in
     part-by
     (subst (λ (k : ℕ). numbers (inRange (c .before .before .before .before .before .before .before .before .before .before .before .before .args .which) (c .before .before .before .before .before .before .before .before .before .before .before .before .args .g) (c .before .before .before .before .before .before .before .before .before .before .before .before .args .p)) (c .before .before .before .before .before .before .before .before .before .before .before .before .args .text .now) k [] (c .before .before .before .before .before .before .before .before .before .before .before .before .args .from .at) ≡ refused 11 (c .before .before .before .before .v .given .0 .1 .0 .line)) (l .inv .0)
-    (turn-out (l .inv .1) (c .before .before .before .before .before .before .before .loop-test .taken) (sym (c .before .before .before .before .v .given .1) ∙ c .before .before .before .before .before .before .next-number .ensures) (sym (c .before .in-range .ensures) ∙ not-true _ (c .if1 .taken))))
+    (turn-out (l .inv .1) (c .before .before .before .before .before .before .before .loop-test .taken) (sym (c .before .before .before .before .v .given .1) ∙ c .before .before .before .before .before .before .next-from .ensures) (sym (c .before .in-range .ensures) ∙ not-true _ (c .if1 .taken))))
 
 loop-again : tie.Need-loop-again Inv-loop μ-loop
 loop-again c =
     let l = c .before .before .before .before .before .before .before .before .loop in
-    (l .inv .0, turn-more (l .inv .1) (c .before .before .before .before .before .before .before .loop-test .taken) (sym (c .before .before .before .before .v .given .1) ∙ c .before .before .before .before .before .before .next-number .ensures) (sym (c .before .in-range .ensures) ∙ not-false _ (c .if1 .left)))
+    (l .inv .0, turn-more (l .inv .1) (c .before .before .before .before .before .before .before .loop-test .taken) (sym (c .before .before .before .before .v .given .1) ∙ c .before .before .before .before .before .before .next-from .ensures) (sym (c .before .in-range .ensures) ∙ not-false _ (c .if1 .left)))
 
 returns-3 : tie.Need-returns-3 Inv-loop μ-loop
 returns-3 c =
