@@ -1,0 +1,40 @@
+-- Safe: all four numbers of event k lie inside.
+use Prim.Native.Nat.{_-_, _≤_}
+use native.Mathlib.Omega.{arith}
+use lib.ListN.{length}
+use Rattle.known.proofs.sides.show_all_faulty.Statement.{statement}
+use Rattle.known.proofs.sides.show_all_faulty.Tie as tie
+
+abbrev Inv-loop : tie.InvT-loop
+Inv-loop events n k₀ k = k ≤ n
+
+abbrev μ-loop : tie.MeasureT-loop
+μ-loop events n k₀ k = n - k
+
+pub show-all-faulty-spec : {M : Type 1} → statement M
+show-all-faulty-spec =
+    tie.close
+    (tie.spec
+    Inv-loop
+    μ-loop
+    (λ c. omega arith)
+    (λ c. omega arith)
+    (λ c. omega arith)
+    (λ c. omega arith)
+    (λ c. omega arith)
+    (λ c. omega arith)
+    (λ c. omega arith)
+    (λ c. omega arith)
+    (λ c. omega arith)
+    (λ c. omega arith)
+    (λ c. omega arith)
+    (λ c. omega arith)
+    (λ c. omega arith)
+    (λ c. omega arith)
+    (λ c. omega arith)
+    (λ c. omega arith)
+    (λ c κs. omega arith)
+    (λ c. omega arith)
+    (λ c. omega arith)
+    (λ c. omega arith)
+    (λ c. omega arith))
