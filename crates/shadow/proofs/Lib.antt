@@ -7,3 +7,4 @@ pub mod Moves
 pub mod Sizing
 pub mod Accepted
 pub mod Starting
+pub mod Theorems
