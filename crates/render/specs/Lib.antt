@@ -1,0 +1,2 @@
+pub mod Render
+pub mod Written
