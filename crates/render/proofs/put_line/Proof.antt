@@ -25,9 +25,12 @@ put-number-requires c κs = omega (arith, c .before .before .before .loop .inv .
 loop-again : tie.Need-loop-again Inv-loop μ-loop
 loop-again c =
     let l = c .before .before .before .before .before .before .loop in
-    let e = c .before .before .put-number .ensures in
-    (omega arith, c .before .before .put-number .kept .0 ∙ l .inv .1, omega (arith, e .1),
-     number-more (c .before .before .before .before .before .before .before .before .before .args .ns .now) (l .i) (c .before .before .before .before .before .loop-test .taken) (outOf (l .end) (l .out)) (e .0) ∙ l .inv .3)
+    let e = c .before .before .put-number .ensures in (
+      omega arith,
+      c .before .before .put-number .kept .0 ∙ l .inv .1,
+      omega (arith, e .1),
+      number-more (c .before .before .before .before .before .before .before .before .before .args .ns .now) (l .i) (c .before .before .before .before .before .loop-test .taken) (outOf (l .end) (l .out)) (e .0) ∙ l .inv .3,
+    )
 
 room : (c : tie.After-loop Inv-loop μ-loop) → c .before .loop .end + 1 ≤ length (c .before .loop .out)
 room c = omega (arith, c .before .loop .inv .1 ∙ length-set (c .before .before .before .before .args .out .now) (c .before .before .before .before .args .at) (c .before .before .before .before .args .letter))
@@ -35,12 +38,13 @@ room c = omega (arith, c .before .loop .inv .1 ∙ length-set (c .before .before
 returns : tie.Need-returns Inv-loop μ-loop
 returns c =
     let a = c .before .before .before .before .args in
-    let l = c .before .loop in
-    (written-one 10 (outOf (l .end) (l .out))
-     ∙ ap (λ (bs : List ℕ). written bs (outOf (l .end) (l .out))) (sym (number-end (a .ns .now) (l .i) (omega arith)))
-     ∙ l .inv .3
-     ∙ written-first (a .letter) (numbers (a .ns .now)) (a .at) (a .out .now),
-     omega arith)
+    let l = c .before .loop in (
+      written-one 10 (outOf (l .end) (l .out))
+          ∙ ap (λ (bs : List ℕ). written bs (outOf (l .end) (l .out))) (sym (number-end (a .ns .now) (l .i) (omega arith)))
+          ∙ l .inv .3
+          ∙ written-first (a .letter) (numbers (a .ns .now)) (a .at) (a .out .now),
+      omega arith,
+    )
 
 pub put-line-spec : {M : Type 1} → statement M
 put-line-spec =

@@ -18,9 +18,10 @@ put-digits-requires c κs = simp length-set (omega (arith, length-word (c .befor
 returns : tie.Need-returns
 returns c =
     let a = c .before .before .before .before .before .args in
-    let e = c .before .before .put-digits .ensures in
-    (e ∙ written-first 32 (digitsOf (a .n)) (a .at) (a .out .now),
-     omega (arith, length-word (a .n) (omega arith), ap (λ (o : Out). o .at) e ∙ written-at (digitsOf (a .n)) (outOf (a .at + 1) (set (a .out .now) (a .at) 32))))
+    let e = c .before .before .put-digits .ensures in (
+      e ∙ written-first 32 (digitsOf (a .n)) (a .at) (a .out .now),
+      omega (arith, length-word (a .n) (omega arith), ap (λ (o : Out). o .at) e ∙ written-at (digitsOf (a .n)) (outOf (a .at + 1) (set (a .out .now) (a .at) 32))),
+    )
 
 pub put-number-spec : {M : Type 1} → statement M
 put-number-spec =

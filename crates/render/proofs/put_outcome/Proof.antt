@@ -29,18 +29,20 @@ returns : tie.Need-returns
 returns c =
     let a = c .before .before .before .before .before .before .before .before .before .before .args in
     let e = c .before .before .put-line .ensures in
-    let o = outOf (a .at) (a .out .now) in
-    (e .0
-     ∙ ap (λ (h : Host). written (line 65 (a .v ∷ (h .0 * 4096 + a .addr % 4096) ∷ [])) o) (c .before .before .before .before .before .before .host-of .ensures)
-     ∙ ap (λ (l : List ℕ). written l o) (address-line (a .map .now) (a .addr) (a .tag) (a .v) (c .before .before .before .before .before .before .before .if1 .taken)),
-     omega (arith, e .1))
+    let o = outOf (a .at) (a .out .now) in (
+      e .0
+          ∙ ap (λ (h : Host). written (line 65 (a .v ∷ (h .0 * 4096 + a .addr % 4096) ∷ [])) o) (c .before .before .before .before .before .before .host-of .ensures)
+          ∙ ap (λ (l : List ℕ). written l o) (address-line (a .map .now) (a .addr) (a .tag) (a .v) (c .before .before .before .before .before .before .before .if1 .taken)),
+      omega (arith, e .1),
+    )
 
 returns-2 : tie.Need-returns-2
 returns-2 c =
     let a = c .before .before .before .before .before .before .before .before .args in
-    let e = c .before .before .put-line2 .ensures in
-    (e .0 ∙ ap (λ (l : List ℕ). written l (outOf (a .at) (a .out .now))) (fault-line (a .map .now) (a .addr) (a .tag) (a .v) (c .before .before .before .before .before .if1 .left)),
-     omega (arith, e .1))
+    let e = c .before .before .put-line2 .ensures in (
+      e .0 ∙ ap (λ (l : List ℕ). written l (outOf (a .at) (a .out .now))) (fault-line (a .map .now) (a .addr) (a .tag) (a .v) (c .before .before .before .before .before .if1 .left)),
+      omega (arith, e .1),
+    )
 
 pub put-outcome-spec : {M : Type 1} → statement M
 put-outcome-spec =

@@ -24,9 +24,12 @@ loop-again : tie.Need-loop-again Inv-loop μ-loop
 loop-again c =
     let a = c .before .before .before .before .before .before .before .before .before .before .before .args in
     let l = c .before .before .before .before .before .before .before .loop in
-    let e = c .before .before .put-outcome .ensures in
-    (omega arith, c .before .before .put-outcome .kept .0 ∙ l .inv .1, omega (arith, e .1),
-     pair-more (a .map .now) (a .addr) (a .pairs .now) (l .k) (omega (arith, c .before .before .before .before .before .before .loop-test .taken)) (outOf (l .end) (l .out)) (e .0) ∙ l .inv .3)
+    let e = c .before .before .put-outcome .ensures in (
+      omega arith,
+      c .before .before .put-outcome .kept .0 ∙ l .inv .1,
+      omega (arith, e .1),
+      pair-more (a .map .now) (a .addr) (a .pairs .now) (l .k) (omega (arith, c .before .before .before .before .before .before .loop-test .taken)) (outOf (l .end) (l .out)) (e .0) ∙ l .inv .3,
+    )
 
 returns : tie.Need-returns Inv-loop μ-loop
 returns c =

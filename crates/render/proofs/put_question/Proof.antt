@@ -17,11 +17,12 @@ returns c =
     let a = c .before .before .before .before .before .before .before .before .before .before .before .before .args in
     let e = c .before .before .put-outcomes .ensures in
     let first = c .before .before .before .before .before .before .put-line .ensures in
-    let rest = pairLines (a .map .now) (a .q .addr) (a .pairs .now) in
-    (e .0
-     ∙ ap (written rest) (first .0)
-     ∙ sym (written-append (line 81 (a .q .proc ∷ a .q .addr ∷ a .q .request ∷ (length (a .pairs .now) / 2) ∷ [])) rest (outOf (a .at) (a .out .now))),
-     omega (arith, e .1, first .1))
+    let rest = pairLines (a .map .now) (a .q .addr) (a .pairs .now) in (
+      e .0
+          ∙ ap (written rest) (first .0)
+          ∙ sym (written-append (line 81 (a .q .proc ∷ a .q .addr ∷ a .q .request ∷ (length (a .pairs .now) / 2) ∷ [])) rest (outOf (a .at) (a .out .now))),
+      omega (arith, e .1, first .1),
+    )
 
 pub put-question-spec : {M : Type 1} → statement M
 put-question-spec =
