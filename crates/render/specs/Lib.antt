@@ -1,0 +1,3 @@
+pub mod Render
+pub mod Written
+pub mod Lines

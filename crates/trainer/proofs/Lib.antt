@@ -1,0 +1,6 @@
+pub mod Copies
+pub mod Asks
+pub mod Turns
+pub mod Puzzles
+pub mod Wholes
+pub mod Theorems

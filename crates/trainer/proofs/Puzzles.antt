@@ -1,0 +1,111 @@
+-- What an accepted text stands for: the list call takes each of its questions, and its lists stand in front of the buffers.
+use mathlib.Core.Path.{_≡_, refl, sym, ap, ap₂, _∙_, subst, subst⁻¹}
+use mathlib.Core.Bool.{Bool, true, false, cond, not, _&&_}
+use mathlib.Core.List.{List, _++_}
+use Prim.Native.Nat.{ℕ, zero, suc, _+_, _*_, _/_, _%_, _^_, _≤_, _<_}
+use native.Mathlib.Numerals.{add-one}
+use native.Mathlib.Omega.{arith}
+use lib.Dec.{eqb, ltb, leb}
+use lib.ListN.{length, take, drop, getD, length-append}
+use lib.Seq.{take-append-seam}
+use borrow.Author.Tests.{eq-eqb, ne-eqb, lt-ltb, le-leb, leb-true}
+use Rattle.paging.specs.Numbers.{all, isBetween}
+use Rattle.paging.specs.Frame.{isNew, mapFits}
+use Rattle.paging.specs.Layout.{frameWords}
+use Rattle.paging.proofs.Numbers.{all-none, all-more}
+use Rattle.rules.specs.declared.Question.{Question}
+use Rattle.rules.specs.History.{eventRefusal}
+use Rattle.rules.specs.Outcome.{questionRefusal}
+use Rattle.listing.specs.Call.{Asked, Lent, asked, lent, setupOf, sizesFit, cr3sFit, firstRefusal, listRefusal}
+use Rattle.rules.specs.Numbers.{eventOf, questionOf}
+use Rattle.listing.proofs.Refuses.{or-second, first-none, first-more, list-later}
+use Rattle.sections.specs.Sections.{Got, got, refused, Puzzle, puzzleOf}
+use Rattle.sections.proofs.Tests.{both-first, both-second}
+use Rattle.puzzle.specs.declared.ReadResult.{ReadResult}
+use Rattle.puzzle.specs.declared.ReadResult.the-variants.{Accepted, Refused}
+use Rattle.puzzle.specs.Buffers.{Buffers, buffers, After, after, laid, wordsOf, filled, countsOf, answer, readCall}
+use Rattle.puzzle.specs.Parts.{Lengths}
+use Rattle.puzzle.proofs.Accepted.{InRange, accepted}
+use Rattle.puzzle.proofs.Theorems as reads
+use Rattle.trainer.specs.Answers.{posed, puzzleIn}
+use Rattle.trainer.specs.Parts.{Posed, Ready, Counts, cut}
+
+all-each : (n : ℕ) (f : ℕ → Bool) → ((k : ℕ) → k < n → f k ≡ true) → all n f ≡ true
+unfolding all
+all-each zero f h = refl
+all-each (suc n) f h = simp (all-each n f (λ k l. h k (omega arith)), h n (omega arith))
+
+first-all : (n : ℕ) (f : ℕ → ℕ) → ((k : ℕ) → k < n → f k ≡ 0) → firstRefusal n f ≡ 0
+unfolding firstRefusal
+first-all zero f h = refl
+first-all (suc n) f h = or-second (firstRefusal n f) (f n) (first-all n f (λ k l. h k (omega arith))) ∙ h n (omega arith)
+
+-- ---- a puzzle whose numbers are in range
+
+pub record Sizes (z : Puzzle) : Type 0 where
+  pub some : 1 ≤ length (z .map)
+  pub frames : length (z .map) ≤ 16
+  pub one : 1 ≤ length (z .cr3s)
+  pub processors : length (z .cr3s) ≤ 4
+  pub fours : length (z .events) % 4 ≡ 0
+  pub events : length (z .events) ≤ 1024
+  pub threes : length (z .questions) % 3 ≡ 0
+  pub questions : length (z .questions) ≤ 48
+
+pub sizes : (z : Puzzle) → InRange z → Sizes z
+sizes z r =
+    let g = r .map .count in
+    let p = r .cr3s .count in
+    let e = r .events .count in
+    let q = r .questions .count in
+    record {
+      some = omega (arith, r .map .long, leb-true 1 g (both-first (leb 1 g) (leb g 16) (r .map .counted)));
+      frames = omega (arith, r .map .long, leb-true g 16 (both-second (leb 1 g) (leb g 16) (r .map .counted)));
+      one = omega (arith, r .cr3s .long, leb-true 1 p (both-first (leb 1 p) (leb p 4) (r .cr3s .counted)));
+      processors = omega (arith, r .cr3s .long, leb-true p 4 (both-second (leb 1 p) (leb p 4) (r .cr3s .counted)));
+      fours = omega (arith, r .events .long);
+      events = omega (arith, r .events .long, leb-true e 256 (r .events .counted));
+      threes = omega (arith, r .questions .long);
+      questions = omega (arith, r .questions .long, leb-true q 16 (both-second (leb 1 q) (leb q 16) (r .questions .counted)));
+    }
+
+sizes-fit : (m p e w k o : ℕ) → 1 ≤ m → m ≤ 16 → 1 ≤ p → p ≤ 4 → e % 4 ≡ 0 → e ≤ 1024 → w ≡ 512 * m → k ≡ 640 → o ≡ 38 → sizesFit m p e w k o ≡ true
+unfolding sizesFit
+sizes-fit m p e w k o a b c d four f g h i =
+    simp (le-leb 1 m a, le-leb m 256 (omega arith), le-leb 1 p c, le-leb p 4 d, eq-eqb (e % 4) 0 four, le-leb (e / 4) 4096 (omega arith), eq-eqb w (512 * m) g, le-leb (40 * m) k (omega arith), le-leb (2 * (m + 3)) o (omega arith))
+
+module _ (text : List ℕ) (z : Puzzle) (at : ℕ) (e : puzzleOf text ≡ got z at) where
+  range : Sizes z
+  range = sizes z (accepted text e)
+
+  map-fits : mapFits (2 ^ 40) (z .map) ≡ true
+  unfolding mapFits
+  map-fits = all-each (length (z .map)) (λ i. ltb (getD (z .map) i 0) (2 ^ 40) && isNew (z .map) i) each
+    where
+      other : (i : ℕ) → i < length (z .map) → (j : ℕ) → j < i → not (eqb (getD (z .map) j 0) (getD (z .map) i 0)) ≡ true
+      other i h j k = simp (ne-eqb (getD (z .map) j 0) (getD (z .map) i 0) (λ (d : getD (z .map) j 0 ≡ getD (z .map) i 0). omega (arith, reads.map-distinct text e j i (omega arith) h d)))
+
+      each : (i : ℕ) → i < length (z .map) → (ltb (getD (z .map) i 0) (2 ^ 40) && isNew (z .map) i) ≡ true
+      each i h =
+          simp (lt-ltb (getD (z .map) i 0) (2 ^ 40) (omega (arith, reads.map-below text e i h)), all-each i (λ j. not (eqb (getD (z .map) j 0) (getD (z .map) i 0))) (other i h))
+
+  cr3s-fit : cr3sFit (length (z .map)) (z .cr3s) ≡ true
+  unfolding cr3sFit
+  cr3s-fit = all-each (length (z .cr3s)) (λ p. ltb (getD (z .cr3s) p 0) (length (z .map))) (λ p h. lt-ltb (getD (z .cr3s) p 0) (length (z .map)) (reads.cr3s-below text e p h))
+
+  posed-each : (k : ℕ) → k < length (z .questions) / 3 → Posed (z .map) (z .cr3s) (wordsOf z) (z .events) (questionOf (z .questions) k)
+  posed-each k h = record { taken = taken; hosts = λ f l. omega (arith, reads.map-below text e f l) }
+    where
+      taken : (work outcomes : List ℕ) → length work ≡ 640 → length outcomes ≡ 38
+          → listRefusal (asked (z .map) (z .cr3s) (z .events) (questionOf (z .questions) k)) (lent (wordsOf z) work outcomes) ≡ 0
+      taken work outcomes w o =
+          let a : Asked = asked (z .map) (z .cr3s) (z .events) (questionOf (z .questions) k) in
+          let b : Lent = lent (wordsOf z) work outcomes in
+          let r = range in
+          let f : ℕ → ℕ = λ j. eventRefusal (setupOf a b) (eventOf (z .events) j) in
+          list-later a b (sizes-fit _ _ _ _ _ _ (r .some) (r .frames) (r .one) (r .processors) (r .fours) (r .events) (reads.words-long text e) w o) map-fits cr3s-fit
+          ∙ or-second (firstRefusal (length (z .events) / 4) f) (questionRefusal (setupOf a b) (questionOf (z .questions) k)) (first-all (length (z .events) / 4) f (λ j l. reads.events-fit text e j (omega arith)))
+          ∙ reads.questions-fit text e k (omega arith)
+
+  pub ready : Ready (posed z)
+  ready = record { words = omega (arith, reads.words-long text e, range .frames); few = range .questions; each = posed-each }

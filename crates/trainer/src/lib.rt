@@ -1,0 +1,198 @@
+// `answers`: from the text of a puzzle to the lines that are printed, in a lent buffer.
+use listing::Listed;
+use puzzle::ReadResult;
+use rules::Question;
+ghost use mathlib.Core.Path.{_≡_};
+ghost use Prim.Native.Nat.{_+_, _*_, _/_, _≤_, _<_};
+ghost use lib.ListN.{length};
+ghost use Rattle.puzzle.specs.Buffers.{buffers};
+ghost use Rattle.rules.specs.Numbers.{questionOf};
+ghost use Rattle.trainer.specs.Answers.{AnswersCall};
+ghost use Rattle.trainer.specs.Parts.{Posed, Found, Answered, Ready, AllAnswered, Counts, cut};
+
+// The number of bytes written, or why the call was refused.
+pub enum Written {
+    Bytes(u64),
+    Refused(u64),
+}
+
+fn copy(words: &mut [u64], start: &[u64])
+    requires { ⌜ length (now words) ≡ length (now start) ⌝ }
+    ensures { λ _. ⌜ now (words .exit) ≡ now (start .entry) ⌝ }
+{
+    for i in 0..start.len() {
+        words[i] = start[i];
+    }
+}
+
+// The list call leaves the stores done in the words, so each question takes a copy of the puzzle's own.
+fn ask_in(
+    map: &[u64],
+    cr3s: &[u64],
+    start: &[u64],
+    events: &[u64],
+    words: &mut [u64],
+    work: &mut [u8],
+    outcomes: &mut [u64],
+    q: Question,
+) -> u64
+    requires { ⌜ (length (now words) ≡ length (now start)) × (length (now work) ≡ 640) × (length (now outcomes) ≡ 38) × Posed (now map) (now cr3s) (now start) (now events) q ⌝ }
+    ensures { λ r. ⌜ Found (now (map .entry)) (now (cr3s .entry)) (now (start .entry)) (now (events .entry)) q r (now (outcomes .exit)) ⌝ }
+{
+    copy(words, start);
+    match listing::list(map, words, cr3s, events, work, outcomes, q) {
+        Listed::Count(n) => n,
+        Listed::Refused(_) => 0,
+    }
+}
+
+fn ask(
+    map: &[u64],
+    cr3s: &[u64],
+    start: &[u64],
+    events: &[u64],
+    words: &mut [u64],
+    work: &mut [u8],
+    outcomes: &mut [u64],
+    q: Question,
+) -> u64
+    requires { ⌜ (length (now start) ≤ length (now words)) × (length (now work) ≡ 640) × (length (now outcomes) ≡ 38) × Posed (now map) (now cr3s) (now start) (now events) q ⌝ }
+    ensures { λ r. ⌜ Found (now (map .entry)) (now (cr3s .entry)) (now (start .entry)) (now (events .entry)) q r (now (outcomes .exit)) ⌝ }
+{
+    let n = start.len();
+    ask_in(map, cr3s, start, events, &mut words[..n], work, outcomes, q)
+}
+
+fn put_answer(
+    out: &mut [u8],
+    at: usize,
+    map: &[u64],
+    cr3s: &[u64],
+    start: &[u64],
+    events: &[u64],
+    q: Question,
+) -> usize
+    requires { ⌜ (at + 922 ≤ length (now out)) × (length (now start) ≤ 8192) × Posed (now map) (now cr3s) (now start) (now events) q ⌝ }
+    ensures { λ r. ⌜ Answered (now (map .entry)) (now (cr3s .entry)) (now (start .entry)) (now (events .entry)) q at (now (out .entry)) r (now (out .exit)) ⌝ }
+{
+    let mut words = [0u64; 8192];
+    let mut work = [0u8; 640];
+    let mut outcomes = [0u64; 38];
+    let count = ask(
+        map,
+        cr3s,
+        start,
+        events,
+        &mut words,
+        &mut work,
+        &mut outcomes,
+        q,
+    );
+    let n = 2 * (count as usize);
+    render::put_question(out, at, map, q, &outcomes[..n])
+}
+
+fn question_at(questions: &[u64], k: usize) -> Question
+    requires { ⌜ 3 * k + 2 < length (now questions) ⌝ }
+    ensures { λ r. ⌜ r ≡ questionOf (now (questions .entry)) k ⌝ }
+{
+    Question {
+        proc: questions[3 * k],
+        addr: questions[3 * k + 1],
+        request: questions[3 * k + 2],
+    }
+}
+
+fn put_answers(
+    out: &mut [u8],
+    map: &[u64],
+    cr3s: &[u64],
+    start: &[u64],
+    events: &[u64],
+    questions: &[u64],
+) -> usize
+    requires { ⌜ (length (now out) ≡ 16384) × Ready (buffers (now map) (now cr3s) (now start) (now events) (now questions)) ⌝ }
+    ensures { λ r. ⌜ AllAnswered (buffers (now (map .entry)) (now (cr3s .entry)) (now (start .entry)) (now (events .entry)) (now (questions .entry))) (now (out .entry)) r (now (out .exit)) ⌝ }
+{
+    let n = questions.len() / 3;
+    let mut at = 0;
+    let mut k = 0;
+    while k < n {
+        let q = question_at(questions, k);
+        at = put_answer(out, at, map, cr3s, start, events, q);
+        k += 1;
+    }
+    at
+}
+
+// The puzzle stands in front of the buffers.
+fn put_puzzle(
+    out: &mut [u8],
+    map: &[u64],
+    cr3s: &[u64],
+    words: &[u64],
+    events: &[u64],
+    questions: &[u64],
+    g: usize,
+    p: usize,
+    e: usize,
+    q: usize,
+) -> usize
+    requires { ⌜ (length (now out) ≡ 16384) × Counts (buffers (now map) (now cr3s) (now words) (now events) (now questions)) g p e q × Ready (cut (buffers (now map) (now cr3s) (now words) (now events) (now questions)) g p e q) ⌝ }
+    ensures { λ r. ⌜ AllAnswered (cut (buffers (now (map .entry)) (now (cr3s .entry)) (now (words .entry)) (now (events .entry)) (now (questions .entry))) g p e q) (now (out .entry)) r (now (out .exit)) ⌝ }
+{
+    put_answers(
+        out,
+        &map[..g],
+        &cr3s[..p],
+        &words[..512 * g],
+        &events[..4 * e],
+        &questions[..3 * q],
+    )
+}
+
+// The lines of `answers` for a text, or `R number line`.
+pub fn answers(text: &[u8], output: &mut [u8]) -> Written
+    ensures { λ r. ⌜ AnswersCall (now (text .entry)) (now (output .entry)) r (now (output .exit)) ⌝ }
+{
+    if output.len() != 16384 {
+        return Written::Refused(1);
+    }
+    let mut map = [0u64; 16];
+    let mut cr3s = [0u64; 4];
+    let mut words = [0u64; 8192];
+    let mut events = [0u64; 1024];
+    let mut questions = [0u64; 48];
+    match puzzle::read(
+        text,
+        &mut map,
+        &mut cr3s,
+        &mut words,
+        &mut events,
+        &mut questions,
+    ) {
+        ReadResult::Refused(number, line) => {
+            Written::Bytes(render::put_line(output, 0, b'R', &[number, line]) as u64)
+        }
+        ReadResult::Accepted {
+            frames,
+            processors,
+            words: _,
+            events: e,
+            questions: q,
+        } => Written::Bytes(
+            put_puzzle(
+                output,
+                &map,
+                &cr3s,
+                &words,
+                &events,
+                &questions,
+                frames as usize,
+                processors as usize,
+                e as usize,
+                q as usize,
+            ) as u64,
+        ),
+    }
+}
