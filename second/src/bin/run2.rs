@@ -1,0 +1,8 @@
+//! Document 01's program `run`, second writing.
+
+use std::io::{self, Write};
+
+fn main() -> io::Result<()> {
+    let text = second::report::read_input()?;
+    io::stdout().write_all(second::report::run(&text).as_bytes())
+}
