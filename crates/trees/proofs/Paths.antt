@@ -131,15 +131,24 @@ module _ (M : Machine) (s s′ : Shadow) (page : ℕ) where
       ∙ ap (down M (descend M (s .pool) page n w)) e
       ∙ sym (path-on M (s .pool) page n w)
 
+  -- the full path of the page from p's root is the same, and so is the entry at its end
+  abbrev pub FullSame : ℕ → Type 0
+  FullSame p =
+      (pathTo M (s′ .pool) p page 1 ≡ pathTo M (s .pool) p page 1)
+      × (nextEntry M (s′ .pool) page (pathTo M (s′ .pool) p page 1) ≡ nextEntry M (s .pool) page (pathTo M (s .pool) p page 1))
+
   -- a path is the same, or stands where D holds, if each step leaves it the same or leads to where D holds
-  module _ (D : ℕ → Type 0) (zero-at : (t : ℕ) → D t → (i : ℕ) → i < entryCount M → ent M s′ t i ≡ 0) (none : D (tableCount M)) (w : Path) where
-    pub same-or : (n : ℕ)
+  module _ (D : ℕ → Type 0) (zero-at : (t : ℕ) → D t → (i : ℕ) → i < entryCount M → ent M s′ t i ≡ 0) (none : D (tableCount M)) where
+    abbrev read-zero : (x : Path) → D (x .table) → nextEntry M (s′ .pool) page x ≡ 0
+    read-zero x d = zero-at (x .table) d (index (M .tables) page (x .level)) (index-small (M .tables) page (x .level))
+
+    pub same-or : (w : Path) (n : ℕ)
         → ((m : ℕ) → m < n → (nextEntry M (s′ .pool) page (descend M (s .pool) page m w) ≡ nextEntry M (s .pool) page (descend M (s .pool) page m w))
         ⊎ D (named M (nextEntry M (s′ .pool) page (descend M (s .pool) page m w))))
         → (descend M (s′ .pool) page n w ≡ descend M (s .pool) page n w) ⊎ D (descend M (s′ .pool) page n w .table)
     unfolding descend
-    same-or zero h = inl refl
-    same-or (suc n) h = go (same-or n (λ m l. h m (omega arith))) (h n (omega arith))
+    same-or w zero h = inl refl
+    same-or w (suc n) h = go (same-or w n (λ m l. h m (omega arith))) (h n (omega arith))
       where
         x : Path
         x = descend M (s .pool) page n w
@@ -157,7 +166,17 @@ module _ (M : Machine) (s s′ : Shadow) (page : ℕ) where
             → (nextEntry M (s′ .pool) page x ≡ nextEntry M (s .pool) page x) ⊎ D (named M (nextEntry M (s′ .pool) page x)) → Next
         go (inl q) (inl e) = inl (step-same n w q e)
         go (inl q) (inr d) = onto _ (ap (λ (y : Path). named M (nextEntry M (s′ .pool) page y)) q) d
-        go (inr d) r = onto (tableCount M) (ap (named M) (zero-at (x′ .table) d _ (index-small (M .tables) page (x′ .level))) ∙ zero-names M) none
+        go (inr d) r = onto (tableCount M) (ap (named M) (read-zero x′ d) ∙ zero-names M) none
+
+    -- such a full path, with a present entry at its end, is the same
+    pub full-or : (p : ℕ)
+        → (pathTo M (s′ .pool) p page 1 ≡ pathTo M (s .pool) p page 1) ⊎ D (pathTo M (s′ .pool) p page 1 .table)
+        → (nextEntry M (s′ .pool) page (pathTo M (s .pool) p page 1) ≡ nextEntry M (s .pool) page (pathTo M (s .pool) p page 1))
+        ⊎ (nextEntry M (s′ .pool) page (pathTo M (s .pool) p page 1) ≡ 0)
+        → isPresent (nextEntry M (s′ .pool) page (pathTo M (s′ .pool) p page 1)) ≡ true → FullSame p
+    full-or p (inl q) (inl e) on = (q, ap (nextEntry M (s′ .pool) page) q ∙ e)
+    full-or p (inl q) (inr z) on = absurd (zero-absent _ (ap (nextEntry M (s′ .pool) page) q ∙ z) on)
+    full-or p (inr d) r on = absurd (zero-absent _ (read-zero (pathTo M (s′ .pool) p page 1) d) on)
 
 module _ (M : Machine) (ok : Able M) (s s′ : Shadow) (exact′ : Exact M s′) (less : Less M s s′) (page : ℕ) where
   -- each next entry is as it was, or 0
@@ -168,10 +187,13 @@ module _ (M : Machine) (ok : Able M) (s s′ : Shadow) (exact′ : Exact M s′)
       go (yes h) = less .entries (w .table) h (index (M .tables) page (w .level)) (index-small (M .tables) page (w .level))
       go (no none) = inr (lost-entry M ok s′ exact′ page w (omega arith))
 
+  abbrev past : (t : ℕ) → tableCount M ≤ t → (i : ℕ) → i < entryCount M → ent M s′ t i ≡ 0
+  past t h i hi = ok .past (s′ .pool) (exact′ .words) t i h
+
   -- WHERE ENTRIES BECOME 0, A PATH STAYS OR STANDS ON NONE
   pub less-path : (n : ℕ) (w : Path) → (descend M (s′ .pool) page n w ≡ descend M (s .pool) page n w) ⊎ (tableCount M ≤ descend M (s′ .pool) page n w .table)
   less-path n w =
-      same-or M s s′ page (λ t. tableCount M ≤ t) (λ t h i hi. ok .past (s′ .pool) (exact′ .words) t i h) (omega arith) w n
+      same-or M s s′ page (λ t. tableCount M ≤ t) past (omega arith) w n
       (λ m l. by (descend M (s .pool) page m w) (less-entry (descend M (s .pool) page m w)))
     where
       by : (x : Path) → (nextEntry M (s′ .pool) page x ≡ nextEntry M (s .pool) page x) ⊎ (nextEntry M (s′ .pool) page x ≡ 0)
@@ -179,20 +201,11 @@ module _ (M : Machine) (ok : Able M) (s s′ : Shadow) (exact′ : Exact M s′)
       by x (inl e) = inl e
       by x (inr z) = let q : named M (nextEntry M (s′ .pool) page x) ≡ tableCount M = ap (named M) z ∙ zero-names M in inr (omega arith)
 
-  -- and a present entry at its end is as it was
-  pub less-full : (p : ℕ) → isPresent (nextEntry M (s′ .pool) page (pathTo M (s′ .pool) p page 1)) ≡ true
-      → (pathTo M (s′ .pool) p page 1 ≡ pathTo M (s .pool) p page 1)
-      × (nextEntry M (s′ .pool) page (pathTo M (s′ .pool) p page 1) ≡ nextEntry M (s .pool) page (pathTo M (s .pool) p page 1))
-  less-full p on = go (less-path (M .tables .levels - 1) (top M p)) (less-entry (pathTo M (s′ .pool) p page 1))
-    where
-      go : (pathTo M (s′ .pool) p page 1 ≡ pathTo M (s .pool) p page 1) ⊎ (tableCount M ≤ pathTo M (s′ .pool) p page 1 .table)
-          → (nextEntry M (s′ .pool) page (pathTo M (s′ .pool) p page 1) ≡ nextEntry M (s .pool) page (pathTo M (s′ .pool) p page 1))
-          ⊎ (nextEntry M (s′ .pool) page (pathTo M (s′ .pool) p page 1) ≡ 0)
-          → (pathTo M (s′ .pool) p page 1 ≡ pathTo M (s .pool) p page 1)
-          × (nextEntry M (s′ .pool) page (pathTo M (s′ .pool) p page 1) ≡ nextEntry M (s .pool) page (pathTo M (s .pool) p page 1))
-      go (inl q) (inl e) = (q, e ∙ ap (nextEntry M (s .pool) page) q)
-      go (inl q) (inr z) = absurd (zero-absent _ z on)
-      go (inr h) r = absurd (zero-absent _ (lost-entry M ok s′ exact′ page (pathTo M (s′ .pool) p page 1) h) on)
+  -- AND A PRESENT ENTRY AT ITS END IS AS IT WAS
+  pub less-full : (p : ℕ) → isPresent (nextEntry M (s′ .pool) page (pathTo M (s′ .pool) p page 1)) ≡ true → FullSame M s s′ page p
+  less-full p on =
+      full-or M s s′ page (λ t. tableCount M ≤ t) past (omega arith) p
+      (less-path (M .tables .levels - 1) (top M p)) (less-entry (pathTo M (s .pool) p page 1)) on
 
 module _ (M : Machine) (ok : Able M) (map : List ℕ) (outside : Outside M map) (s s′ : Shadow) (trees : Trees M map s) (exact′ : Exact M s′) (page : ℕ)
     (p : ℕ) (hp : p < M .processors) where
