@@ -84,7 +84,7 @@ module _ (M : Machine) (ok : Able M) (map : List ℕ) (outside : Outside M map) 
 
 module _ (M : Machine) (ok : Able M) (map : List ℕ) (outside : Outside M map) (s : Shadow) (trees : Trees M map s)
     (t i u l : ℕ) (g : Guest) (r : ℕ) (ht : t < tableCount M) (hi : i < entryCount M) (hu : u < tableCount M) (hr : r < 8)
-    (absent : ent M s t i ≡ 0) (upper : 1 < lev M s t) (free : lev M s u ≡ 0) where
+    (upper : 1 < lev M s t) (free : lev M s u ≡ 0) where
   abbrev made : ℕ
   made = compose (M .tables) r 0 (M .base + u)
 
