@@ -1,3 +1,6 @@
 pub mod Trees
 pub mod Entries
 pub mod Falls
+pub mod Counts
+pub mod Asked
+pub mod Rules
