@@ -3,3 +3,6 @@ pub mod Entries
 pub mod Falls
 pub mod Paths
 pub mod Unique
+pub mod Counts
+pub mod Asked
+pub mod Rules
