@@ -6,3 +6,5 @@ pub mod Unique
 pub mod Counts
 pub mod Asked
 pub mod Rules
+pub mod Prunes
+pub mod Cuts
