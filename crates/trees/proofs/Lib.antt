@@ -3,3 +3,5 @@ pub mod Entries
 pub mod Falls
 pub mod Hangs
 pub mod Leaves
+pub mod Empties
+pub mod Shares
