@@ -8,3 +8,7 @@ pub mod Asked
 pub mod Rules
 pub mod Prunes
 pub mod Cuts
+pub mod Hangs
+pub mod Leaves
+pub mod Empties
+pub mod Shares
