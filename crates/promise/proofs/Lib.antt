@@ -1,3 +1,2 @@
-pub mod Alikes
 pub mod GuestWalks
 pub mod Settles

@@ -13,6 +13,7 @@ use Rattle.tables.specs.State.{Machine, Shadow, tableCount, ownerOf, entryCount
 use Rattle.tables.specs.Steps.{cut}
 use Rattle.lawful.specs.Rules.{isMadeWith, isLeaf, isBranch, isRoot}
 use Rattle.trees.proofs.Trees.{Able, Outside, ent, lev, shd, Names, Branch, Trees, Less, Same}
+use Rattle.trees.proofs.Entries.{zero-names-none}
 use Rattle.trees.proofs.Falls.{live}
 use Rattle.trees.proofs.Prunes.{Below, Cleared, Zeroed, Pruned, Onward, still, cut-onward, frees}
 
@@ -35,7 +36,7 @@ module _ (M : Machine) (ok : Able M) (map : List ℕ) (outside : Outside M map) 
     names = λ {v = v} {k = k} {w = w} m z. absurd (omega (arith, z, live M map outside s trees m));
   }
 
-  onward : Onward M s t i (tableCount M) s s′ × (ent M s′ t i ≡ 0)
+  onward : Onward M s t i (λ v k. (v ≡ t) × (k ≡ i)) (tableCount M) s s′ × (ent M s′ t i ≡ 0)
   onward = cut-onward M s t i ok map outside trees l (frees M s t i ok map outside trees l) t i ht hi level (inr (refl, refl)) s whole
 
   pruned : Pruned M s t i (tableCount M) s′
@@ -83,11 +84,39 @@ module _ (M : Machine) (ok : Able M) (map : List ℕ) (outside : Outside M map) 
   pub cut-others : (v : ℕ) → v < tableCount M → (ownerOf M v ≡ ownerOf M t → ⊥) → Same M s s′ v
   cut-others v hv ne = untouched v hv (λ b. ne (b .owner)) (λ q. ne (ap (ownerOf M) q))
 
-  -- ---- the trees
-
   -- a live table has its record
   pub cut-kept : (v : ℕ) → v < tableCount M → 0 < lev M s′ v → (lev M s′ v ≡ lev M s v) × (shd M s′ v ≡ shd M s v)
   cut-kept v hv h = by-record v hv (λ same. same) (λ c. absurd (omega (arith, c .level)))
+
+  -- ---- who goes and who stays
+
+  -- a live table has its entries, but for the one that is cut
+  pub cut-rest : (v k : ℕ) → k < entryCount M → 0 < lev M s′ v → (v ≡ t → k ≡ i → ⊥) → ent M s′ v k ≡ ent M s v k
+  cut-rest v k hk h ne = onward .0 .rest v k hk h (λ q. ne (q .0) (q .1))
+
+  -- what an entry named goes with it
+  pub cut-goes : {v k w : ℕ} → Names M s v k w → ent M s′ v k ≡ 0 → lev M s′ w ≡ 0
+  cut-goes {v} {k} {w} m z =
+      by-entry v (m .table) k (m .index)
+      (λ e. absurd (zero-names-none M (ent M s v k) (sym e ∙ z) (rw (m .names) (m .is))))
+      (λ d. d .under w m)
+
+  -- what a live table named is live, but for the entry that is cut
+  pub cut-stays : {v k w : ℕ} → Names M s v k w → 0 < lev M s′ v → (v ≡ t → k ≡ i → ⊥) → 0 < lev M s′ w
+  cut-stays {v} {k} {w} m h ne = go (ℕ-discrete (lev M s′ w) 0)
+    where
+      e : ent M s′ v k ≡ ent M s v k
+      e = cut-rest v k (m .index) h ne
+
+      go : Dec (lev M s′ w ≡ 0) → 0 < lev M s′ w
+      go (yes z) =
+          ⊎-elim
+          (λ (q : w ≡ tableCount M). absurd (omega (arith, m .is)))
+          (λ (gone : ent M s′ v k ≡ 0). absurd (zero-names-none M (ent M s v k) (sym e ∙ gone) (rw (m .names) (m .is))))
+          (pruned .names m z)
+      go (no up) = omega arith
+
+  -- ---- the trees
 
   roots : (v : ℕ) → v < tableCount M → isRoot M v ≡ eqb (lev M s′ v) (M .tables .levels)
   roots v hv =

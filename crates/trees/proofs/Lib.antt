@@ -12,3 +12,4 @@ pub mod Hangs
 pub mod Leaves
 pub mod Empties
 pub mod Shares
+pub mod Fills

@@ -64,10 +64,11 @@ module _ (M : Machine) (s₀ : Shadow) (t₀ i₀ : ℕ) where
     pub level : (v : ℕ) → lev M s v ≡ 0 → lev M s′ v ≡ 0
     pub frame : (v : ℕ) → shd M s v ≡ 0 → shd M s′ v ≡ 0
 
-  -- and s′ is pruned
-  pub record Onward (x : ℕ) (s s′ : Shadow) : Type 0 where
+  -- and s′ is pruned; the tables that are live in s′ have all entries but those of P
+  pub record Onward (P : ℕ → ℕ → Type 0) (x : ℕ) (s s′ : Shadow) : Type 0 where
     pub pruned : Pruned x s′
     pub zeros : Zeros s s′
+    pub rest : (v k : ℕ) → k < entryCount M → 0 < lev M s′ v → (P v k → ⊥) → ent M s′ v k ≡ ent M s v k
 
   zeros-on : {s s′ s″ : Shadow} → Zeros s s′ → Zeros s′ s″ → Zeros s s″
   zeros-on a b = record {
@@ -75,6 +76,14 @@ module _ (M : Machine) (s₀ : Shadow) (t₀ i₀ : ℕ) where
     level = λ v z. b .level v (a .level v z);
     frame = λ v z. b .frame v (a .frame v z);
   }
+
+  -- who is live was live
+  lived : {s s′ : Shadow} → Zeros s s′ → (v : ℕ) → 0 < lev M s′ v → 0 < lev M s v
+  lived {s} {s′} z v h = go (ℕ-discrete (lev M s v) 0)
+    where
+      go : Dec (lev M s v ≡ 0) → 0 < lev M s v
+      go (yes q) = absurd (omega (arith, z .level v q))
+      go (no up) = omega arith
 
   cleared-on : {s s′ : Shadow} {v : ℕ} → Zeros s s′ → Cleared s v → Cleared s′ v
   cleared-on {v = v} z c = record {
@@ -128,6 +137,10 @@ module _ (M : Machine) (s₀ : Shadow) (t₀ i₀ : ℕ) where
         level = λ v z. z;
         frame = λ v z. z;
       }
+
+      entry-rest : (v k : ℕ) → k < entryCount M → ((v ≡ t) × (k ≡ i) → ⊥) → ent M after v k ≡ ent M s v k
+      entry-rest v k hk ne =
+          ⊎-elim (λ (a : (v ≡ t) × (k ≡ i) × (ent M after v k ≡ 0)). absurd (ne (a .0, a .1))) (λ (e : ent M after v k ≡ ent M s v k). e) (stored v k hk)
 
       entry-pruned : Cuttable t i → (x < tableCount M → Names M s₀ t i x) → ((w : ℕ) → Names M s₀ t i w → lev M s w ≡ 0) → Pruned (tableCount M) after
       entry-pruned cuttable was under = record {
@@ -218,7 +231,7 @@ module _ (M : Machine) (s₀ : Shadow) (t₀ i₀ : ℕ) where
     abbrev Frees : ℕ → Type 0
     Frees l =
         (t : ℕ) → t < tableCount M → lev M s₀ t ≡ l → 0 < l → Below t → (s : Shadow) → Pruned (tableCount M) s
-        → Onward t s (freeTable M l t s) × (lev M (freeTable M l t s) t ≡ 0)
+        → Onward (λ v k. ⊥) t s (freeTable M l t s) × (lev M (freeTable M l t s) t ≡ 0)
 
     -- what such an entry names may go too
     goes : {t i u : ℕ} → Cuttable t i → Names M s₀ t i u → Below u
@@ -232,14 +245,15 @@ module _ (M : Machine) (s₀ : Shadow) (t₀ i₀ : ℕ) where
 
     module _ (l : ℕ) (ih : Frees l) (t i : ℕ) (ht : t < tableCount M) (hi : i < entryCount M) (level : lev M s₀ t ≡ suc l) (cuttable : Cuttable t i) where
       -- AN ENTRY IS CUT: what it names is freed, and it becomes 0
-      pub cut-onward : (s : Shadow) → Pruned (tableCount M) s → Onward (tableCount M) s (cut M l t i s) × (ent M (cut M l t i s) t i ≡ 0)
+      pub cut-onward : (s : Shadow) → Pruned (tableCount M) s
+          → Onward (λ v k. (v ≡ t) × (k ≡ i)) (tableCount M) s (cut M l t i s) × (ent M (cut M l t i s) t i ≡ 0)
       cut-onward s p = go (ltb (named M (ent M s t i)) (tableCount M)) refl
         where
           c : ℕ
           c = named M (ent M s t i)
 
           go : (b : Bool) → ltb c (tableCount M) ≡ b
-              → let s′ = onPool (withEntry M t i 0) (cond b (freeTable M l c s) s) in Onward (tableCount M) s s′ × (ent M s′ t i ≡ 0)
+              → let s′ = onPool (withEntry M t i 0) (cond b (freeTable M l c s) s) in Onward (λ v k. (v ≡ t) × (k ≡ i)) (tableCount M) s s′ × (ent M s′ t i ≡ 0)
           go true e =
               let m : Names M s₀ t i c = still p (record { table = ht; index = hi; names = refl; is = ltb-true c (tableCount M) e }) in
               let lower = falls M map outside s₀ trees m in
@@ -248,6 +262,7 @@ module _ (M : Machine) (s₀ : Shadow) (t₀ i₀ : ℕ) where
                 record {
                   pruned = entry-pruned q t i ht hi cuttable (λ h. m) (λ w n. subst (λ (x : ℕ). lev M (freeTable M l c s) x ≡ 0) (sym (m .names) ∙ n .names) (freed .1));
                   zeros = zeros-on (freed .0 .zeros) (entry-zeros q t i ht hi);
+                  rest = λ v k hk h ne. entry-rest q t i ht hi v k hk ne ∙ freed .0 .rest v k hk h (λ b. b);
                 },
                 here q t i ht hi,
               )
@@ -256,6 +271,7 @@ module _ (M : Machine) (s₀ : Shadow) (t₀ i₀ : ℕ) where
                 record {
                   pruned = entry-pruned p t i ht hi cuttable (λ h. absurd (omega arith)) (λ w n. under w n (p .entries t ht i hi));
                   zeros = entry-zeros p t i ht hi;
+                  rest = λ v k hk h ne. entry-rest p t i ht hi v k hk ne;
                 },
                 here p t i ht hi,
               )
@@ -266,7 +282,7 @@ module _ (M : Machine) (s₀ : Shadow) (t₀ i₀ : ℕ) where
 
     -- i turns of freeing t are done
     record Turned (t : ℕ) (s : Shadow) (i : ℕ) (s′ : Shadow) : Type 0 where
-      onward : Onward (tableCount M) s s′
+      onward : Onward (λ v k. v ≡ t) (tableCount M) s s′
       done : (k : ℕ) → k < i → ent M s′ t k ≡ 0
 
     module _ (l : ℕ) (ih : Frees l) (t : ℕ) (ht : t < tableCount M) (level : lev M s₀ t ≡ suc l) (below : Below t) (s : Shadow) where
@@ -274,7 +290,11 @@ module _ (M : Machine) (s₀ : Shadow) (t₀ i₀ : ℕ) where
       turn i hi s′ q =
           let r = cut-onward l ih t i ht hi level (inl below) s′ (q .onward .pruned) in
           record {
-            onward = record { pruned = r .0 .pruned; zeros = zeros-on (q .onward .zeros) (r .0 .zeros) };
+            onward = record {
+              pruned = r .0 .pruned;
+              zeros = zeros-on (q .onward .zeros) (r .0 .zeros);
+              rest = λ v k hk h ne. r .0 .rest v k hk h (λ x. ne (x .0)) ∙ q .onward .rest v k hk (lived (r .0 .zeros) v h) ne;
+            };
             done = λ k hk.
                 ⊎-elim
                 (λ (e : k ≡ i). rw e (r .1))
@@ -287,9 +307,16 @@ module _ (M : Machine) (s₀ : Shadow) (t₀ i₀ : ℕ) where
     unfolding freeTable
     frees zero t ht level live below s p = absurd (omega arith)
     frees (suc l) t ht level live below s p =
-        let turned = each-makes (Turned t s) (entryCount M) (cut M l t) (turn l (frees l) t ht level below s) s
-        (record { onward = record { pruned = p; zeros = record { entry = λ v k h z. z; level = λ v z. z; frame = λ v z. z } }; done = λ k hk. absurd (omega arith) }) in
-        let q = turned .onward .pruned in (
-          record { pruned = record-pruned q t ht below (turned .done); zeros = zeros-on (turned .onward .zeros) (record-zeros q t ht) },
-          level-here M ok _ (q .exact) t 0 (guest 0) ht,
+        let none : Zeros s s = record { entry = λ v k h z. z; level = λ v z. z; frame = λ v z. z } in
+        let start : Turned t s 0 s = record { onward = record { pruned = p; zeros = none; rest = λ v k hk h ne. refl }; done = λ k hk. absurd (omega arith) } in
+        let turned = each-makes (Turned t s) (entryCount M) (cut M l t) (turn l (frees l) t ht level below s) s start in
+        let q = turned .onward .pruned in
+        let zeros = record-zeros q t ht in
+        let gone = level-here M ok _ (q .exact) t 0 (guest 0) ht in (
+          record {
+            pruned = record-pruned q t ht below (turned .done);
+            zeros = zeros-on (turned .onward .zeros) zeros;
+            rest = λ v k hk h ne. turned .onward .rest v k hk (lived zeros v h) (λ (e : v ≡ t). let f : 0 < 0 = rw (e, gone) at h in omega arith);
+          },
+          gone,
         )
