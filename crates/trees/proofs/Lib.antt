@@ -1,3 +1,7 @@
 pub mod Trees
 pub mod Entries
 pub mod Falls
+pub mod Tests
+pub mod Counts
+pub mod Asked
+pub mod Rules
