@@ -5,3 +5,4 @@ pub mod Tests
 pub mod Counts
 pub mod Asked
 pub mod Rules
+pub mod Slots
