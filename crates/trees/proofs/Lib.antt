@@ -6,3 +6,4 @@ pub mod Counts
 pub mod Asked
 pub mod Rules
 pub mod Slots
+pub mod SlotRules
