@@ -1,50 +1,17 @@
 -- What the tests on a record and on an entry say, as facts, both ways.
 use mathlib.Core.Path.{_≡_, refl, sym, _∙_}
-use mathlib.Core.Bool.{Bool, true, false, Bool·beq, not, _&&_, _||_}
+use mathlib.Core.Bool.{Bool, true, false, Bool·beq, not, _||_}
 use mathlib.Core.List.{List}
 use mathlib.Core.Logic.{_⊎_, inl, inr}
-use Prim.Native.Nat.{ℕ, zero, suc, _+_, _-_, _≤_, _<_}
+use Prim.Native.Nat.{ℕ, _+_, _-_, _≤_, _<_}
 use native.Mathlib.Omega.{arith}
 use lib.Dec.{eqb, ltb, leb}
 use borrow.Author.Tests.{eq-eqb, ne-eqb, lt-ltb, le-leb, lt-leb, eqb-true, eqb-false, ltb-true, leb-true}
-use Rattle.paging.proofs.Tests.{and-l, and-r, T-true, true-T}
 use Rattle.tables.specs.State.{Machine, Shadow, ownerOf, named}
 use Rattle.lawful.proofs.Records.{positive}
 use Rattle.lawful.specs.Rules.{isLeaf, isLaidOut, namesLower, isRoot, namesOf, recordRight, entryRight}
+use Rattle.trees.proofs.Tests.{false-true, beq-true, beq-same, both, five, or-true}
 use Rattle.trees.proofs.Trees.{lev, shd, Branch}
-
--- ---- tests
-
-pub false-true : {A : Type 0} → false ≡ true → A
-false-true e = absurd (true-T false e)
-
-beq-true : (a b : Bool) → Bool·beq a b ≡ true → a ≡ b
-beq-true true true e = refl
-beq-true true false e = false-true e
-beq-true false true e = false-true e
-beq-true false false e = refl
-
-beq-same : (a b : Bool) → a ≡ b → Bool·beq a b ≡ true
-beq-same a b e = rw e (self b)
-  where
-    self : (b : Bool) → Bool·beq b b ≡ true
-    self true = refl
-    self false = refl
-
-pub both : (a b : Bool) → (a && b) ≡ true → (a ≡ true) × (b ≡ true)
-both a b e = (T-true a (and-l a b (true-T _ e)), T-true b (and-r a b (true-T _ e)))
-
-five : (a b c d e : Bool) → (a && b && c && d && e) ≡ true → (a ≡ true) × (b ≡ true) × (c ≡ true) × (d ≡ true) × (e ≡ true)
-five a b c d e h =
-    let (abcd, he) = both (a && b && c && d) e h in
-    let (abc, hd) = both (a && b && c) d abcd in
-    let (ab, hc) = both (a && b) c abc in
-    let (ha, hb) = both a b ab in
-    (ha, hb, hc, hd, he)
-
-pub or-true : (a : Bool) → (a || true) ≡ true
-or-true true = refl
-or-true false = refl
 
 -- ---- a record
 
@@ -106,12 +73,6 @@ module _ (M : Machine) (s : Shadow) (t : ℕ) where
       asked = five (leb l L) (zeros (eqb l 0)) (Bool·beq (isRoot M t) (eqb l L)) (once (isRoot M t) (eqb l 0)) (ltb (shd M s t) (M .frames)) e
 
 -- ---- an entry, by its table's level
-
--- level 0, 1, or above
-pub levels : (n : ℕ) → (n ≡ 0) ⊎ (n ≡ 1) ⊎ (1 < n)
-levels zero = inl refl
-levels (suc zero) = inr (inl refl)
-levels (suc (suc n)) = inr (inr (omega arith))
 
 module _ (M : Machine) (map : List ℕ) (s : Shadow) (t e : ℕ) where
   abbrev n : ℕ

@@ -13,3 +13,6 @@ pub mod Leaves
 pub mod Empties
 pub mod Shares
 pub mod Fills
+pub mod Tests
+pub mod Slots
+pub mod SlotRules

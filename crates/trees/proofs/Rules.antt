@@ -17,7 +17,8 @@ use Rattle.trees.proofs.Trees.{Able, Outside, Exact, ent, lev, Names, B
 use Rattle.trees.proofs.Entries.{zero-names-none}
 use Rattle.trees.proofs.Falls.{leaf-names}
 use Rattle.trees.proofs.Counts.{all-i, pairs-some, pairs-same, pairs-one}
-use Rattle.trees.proofs.Asked.{both, or-true, levels, Recorded, recorded-right, right-recorded, zero-fine, leaf-fine, branch-fine, fine-zero, fine-leaf, fine-branch}
+use Rattle.trees.proofs.Tests.{both, or-true, zero-one-more}
+use Rattle.trees.proofs.Asked.{Recorded, recorded-right, right-recorded, zero-fine, leaf-fine, branch-fine, fine-zero, fine-leaf, fine-branch}
 
 module _ (M : Machine) (ok : Able M) (map : List ℕ) (outside : Outside M map) (s : Shadow) where
   -- whether entry i of t names u
@@ -36,7 +37,7 @@ module _ (M : Machine) (ok : Able M) (map : List ℕ) (outside : Outside M map) 
 
     table-fine : (t : ℕ) → t < tableCount M → (i : ℕ) → i < entryCount M → entryRight M map (s .records) t (ent M s t i) ≡ true
     table-fine t h i k =
-        by-cases (levels (lev M s t))
+        by-cases (zero-one-more (lev M s t))
         (λ z. zero-fine M map s t e (trees .free t h z .1 i k))
         (λ above.
         by-cases above
@@ -64,7 +65,7 @@ module _ (M : Machine) (ok : Able M) (map : List ℕ) (outside : Outside M map) 
 
     -- ---- whole tables
 
-    branch-names : (t e : ℕ) → Branch M s t e → named M e < tableCount M
+    pub branch-names : (t e : ℕ) → Branch M s t e → named M e < tableCount M
     unfolding isBranch
     branch-names t e b = ltb-true (named M e) (tableCount M) (both (isMadeWith (M .tables) 0 e) (ltb (named M e) (tableCount M)) (b .made) .1)
 
@@ -72,7 +73,7 @@ module _ (M : Machine) (ok : Able M) (map : List ℕ) (outside : Outside M map) 
     entry-whole : (whole : ℕ → Bool) (t i : ℕ) → t < tableCount M → i < entryCount M → 0 < lev M s t
         → ((u : ℕ) → u < tableCount M → lev M s u + 1 ≡ lev M s t → whole u ≡ true) → entryBy M map whole (lev M s t) (ent M s t i) ≡ true
     entry-whole whole t i h k lo below =
-        by-cases (levels l)
+        by-cases (zero-one-more l)
         (λ z. absurd (omega arith))
         (λ above.
         by-cases above
@@ -105,18 +106,21 @@ module _ (M : Machine) (ok : Able M) (map : List ℕ) (outside : Outside M map) 
         (λ i k.
         rw q at (entry-whole (tableWhole M map (s .pool) l) t i h k (omega arith) (λ u hu r. table-whole l u hu (omega arith))))
 
+    pub root-table : (p : ℕ) → p < M .processors → rootOf M p < tableCount M
+    root-table p h = mul-lt-mul-of-pos-right h (ok .some)
+
+    pub root-level : (p : ℕ) → p < M .processors → lev M s (rootOf M p) ≡ M .tables .levels
+    unfolding isRoot
+    root-level p h =
+        eqb-true (lev M s (rootOf M p)) (M .tables .levels)
+        (sym (trees .roots (rootOf M p) (root-table p h))
+        ∙ eq-eqb (rootOf M p) (rootOf M (ownerOf M (rootOf M p))) (ap (rootOf M) (sym (mul-div-cancel p (ok .some)))))
+
     -- EVERY ROOT IS WHOLE
     pub trees-whole : all (M .processors) (λ p. tableWhole M map (s .pool) (M .tables .levels) (rootOf M p)) ≡ true
-    unfolding isRoot
     trees-whole =
         all-i (λ p. tableWhole M map (s .pool) (M .tables .levels) (rootOf M p)) (M .processors)
-        (λ p h. table-whole (M .tables .levels) (rootOf M p) (is p h) (eqb-true (lev M s (rootOf M p)) (M .tables .levels) (sym (trees .roots (rootOf M p) (is p h)) ∙ root p)))
-      where
-        is : (p : ℕ) → p < M .processors → rootOf M p < tableCount M
-        is p h = mul-lt-mul-of-pos-right h (ok .some)
-
-        root : (p : ℕ) → isRoot M (rootOf M p) ≡ true
-        root p = eq-eqb (rootOf M p) (rootOf M (ownerOf M (rootOf M p))) (ap (rootOf M) (sym (mul-div-cancel p (ok .some))))
+        (λ p h. table-whole (M .tables .levels) (rootOf M p) (root-table p h) (root-level p h))
 
   -- ---- from the tests to the trees
 
@@ -137,7 +141,7 @@ module _ (M : Machine) (ok : Able M) (map : List ℕ) (outside : Outside M map) 
     -- who is named is live and no root
     below : {t i u : ℕ} → Names M s t i u → (0 < lev M s u) × (lev M s u < M .tables .levels)
     below {t} {i} {u} m =
-        by-cases (levels (lev M s t))
+        by-cases (zero-one-more (lev M s t))
         (λ z. never (fine-zero M map s t e is z))
         (λ above.
         by-cases above
