@@ -25,6 +25,10 @@ by-table {A} v u f h = go (ℕ-discrete v u)
     go (yes q) = f q
     go (no ne) = h ne
 
+-- a name where the entry is the same
+pub names-by : {M : Machine} {s x : Shadow} {v k u : ℕ} → ent M x v k ≡ ent M s v k → Names M s v k u → Names M x v k u
+names-by {M} same m = record { table = m .table; index = m .index; names = ap (named M) same ∙ m .names; is = m .is }
+
 module _ (M : Machine) (ok : Able M) (map : List ℕ) (outside : Outside M map) (s : Shadow) (trees : Trees M map s)
     (t i u l : ℕ) (g : Guest) (r : ℕ) (table : t < tableCount M) (index : i < entryCount M) (level : lev M s t ≡ suc l) (low : 0 < l)
     (absent : ent M s t i ≡ 0) (new : u < tableCount M) (free : lev M s u ≡ 0) (owner : ownerOf M u ≡ ownerOf M t)
@@ -89,7 +93,7 @@ module _ (M : Machine) (ok : Able M) (map : List ℕ) (outside : Outside M map) 
     where
       old : (v ≡ t → k ≡ i → ⊥) → Which v k x
       old ne =
-          let n : Names M s v k x = record { table = m .table; index = m .index; names = sym (ap (named M) (hang-beside v k (m .index) ne)) ∙ m .names; is = m .is } in
+          let n : Names M s v k x = names-by (sym (hang-beside v k (m .index) ne)) m in
           inr (n, λ q. omega (arith, live M map outside s trees n, ap (lev M s) q))
 
       go : Dec (v ≡ t) → Dec (k ≡ i) → Which v k x
@@ -99,7 +103,7 @@ module _ (M : Machine) (ok : Able M) (map : List ℕ) (outside : Outside M map) 
 
   -- a name that was there is there
   still : {v k x : ℕ} → Names M s v k x → Names M s′ v k x
-  still {v} {k} {x} m = record { table = m .table; index = m .index; names = ap (named M) (hang-beside v k (m .index) other) ∙ m .names; is = m .is }
+  still {v} {k} {x} m = names-by (hang-beside v k (m .index) other) m
     where
       other : v ≡ t → k ≡ i → ⊥
       other p q = zero-names-none M (ent M s v k) (ap₂ (ent M s) p q ∙ absent) (rw (m .names) (m .is))
@@ -119,7 +123,10 @@ module _ (M : Machine) (ok : Able M) (map : List ℕ) (outside : Outside M map) 
   roots′ : (v : ℕ) → v < tableCount M → isRoot M v ≡ eqb (lev M s′ v) (M .tables .levels)
   roots′ v h =
       by-table v u
-      (λ q. trees .roots v h ∙ ne-eqb (lev M s v) _ (λ e. omega (arith, ap (lev M s) q, trees .bound t table)) ∙ sym (ne-eqb (lev M s′ v) _ (λ e. omega (arith, ap (lev M s′) q, hang-level, trees .bound t table))))
+      (λ q.
+      let was = ne-eqb (lev M s v) (M .tables .levels) (λ e. omega (arith, ap (lev M s) q, trees .bound t table)) in
+      let now = ne-eqb (lev M s′ v) (M .tables .levels) (λ e. omega (arith, ap (lev M s′) q, hang-level, trees .bound t table)) in
+      trees .roots v h ∙ was ∙ sym now)
       (λ ne. trees .roots v h ∙ ap (λ (n : ℕ). eqb n (M .tables .levels)) (sym (hang-others v ne .0)))
 
   free′ : (v : ℕ) → v < tableCount M → lev M s′ v ≡ 0 → (shd M s′ v ≡ 0) × ((k : ℕ) → k < entryCount M → ent M s′ v k ≡ 0)

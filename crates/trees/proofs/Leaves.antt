@@ -19,9 +19,10 @@ use Rattle.paging.proofs.Rights.{meet-small}
 use Rattle.tables.specs.State.{Machine, Shadow, onPool, tableCount, entryCount, withEntry, named}
 use Rattle.tables.specs.Steps.{leafOf}
 use Rattle.lawful.specs.Rules.{isOf, isMadeWith, isLeaf}
-use Rattle.trees.proofs.Trees.{Able, Outside, ent, lev, Names, Branch, Trees}
+use Rattle.trees.proofs.Trees.{Able, Outside, ent, lev, Names, Branch, Trees, Same}
 use Rattle.trees.proofs.Entries.{entry-here, entry-other, entry-exact, zero-names-none}
 use Rattle.trees.proofs.Falls.{leaf-names, names-branch}
+use Rattle.trees.proofs.Hangs.{names-by}
 
 module _ (M : Machine) (ok : Able M) (map : List ℕ) (outside : Outside M map) (s : Shadow) (trees : Trees M map s)
     (t i e : ℕ) (table : t < tableCount M) (level : lev M s t ≡ 1) (index : i < entryCount M) (small : e < 2 ^ M .tables .entryBits)
@@ -35,6 +36,9 @@ module _ (M : Machine) (ok : Able M) (map : List ℕ) (outside : Outside M map) 
   pub leaf-beside : (v k : ℕ) → k < entryCount M → (v ≡ t → k ≡ i → ⊥) → ent M s′ v k ≡ ent M s v k
   leaf-beside v k h ne = entry-other M ok s (trees .exact) t i e table index small v k h (λ p q. ne (sym p) (sym q))
 
+  pub leaf-same : (v : ℕ) → (v ≡ t → ⊥) → Same M s s′ v
+  leaf-same v ne = record { entries = λ k h. leaf-beside v k h (λ p q. ne p); level = refl; frame = refl }
+
   -- the entry written names none
   names-none : named M e < tableCount M → ⊥
   names-none = go laid
@@ -43,21 +47,19 @@ module _ (M : Machine) (ok : Able M) (map : List ℕ) (outside : Outside M map) 
       go (inl z) = zero-names-none M e z
       go (inr q) = leaf-names M map outside e q
 
-  -- all else as it was
-  pub leaf-elsewhere : (v : ℕ) → (lev M s v ≡ 1 → ⊥) → (k : ℕ) → k < entryCount M → ent M s′ v k ≡ ent M s v k
+  -- tables of other levels
+  leaf-elsewhere : (v : ℕ) → (lev M s v ≡ 1 → ⊥) → (k : ℕ) → k < entryCount M → ent M s′ v k ≡ ent M s v k
   leaf-elsewhere v high k h = leaf-beside v k h (λ p q. high (ap (lev M s) p ∙ level))
 
   -- the same names
   old : {v k x : ℕ} → Names M s′ v k x → Names M s v k x
-  old {v} {k} {x} m = record { table = m .table; index = m .index; names = sym (ap (named M) (leaf-beside v k (m .index) other)) ∙ m .names; is = m .is }
+  old {v} {k} {x} m = names-by (sym (leaf-beside v k (m .index) other)) m
     where
       other : v ≡ t → k ≡ i → ⊥
       other p q = names-none (omega (arith, m .is, m .names, ap (named M) (ap₂ (ent M s′) p q ∙ leaf-entry)))
 
   still : {v k x : ℕ} → Names M s v k x → Names M s′ v k x
-  still {v} {k} {x} m =
-      let same = leaf-elsewhere v (λ q. omega (arith, names-branch M map outside s trees m .0)) k (m .index) in
-      record { table = m .table; index = m .index; names = ap (named M) same ∙ m .names; is = m .is }
+  still {v} {k} {x} m = names-by (leaf-elsewhere v (λ q. omega (arith, names-branch M map outside s trees m .0)) k (m .index)) m
 
   leaf′ : (v : ℕ) → v < tableCount M → lev M s v ≡ 1 → (k : ℕ) → k < entryCount M → (ent M s′ v k ≡ 0) ⊎ (isLeaf (M .tables) map (ent M s′ v k) ≡ true)
   leaf′ v h z k hk = go (ℕ-discrete v t) (ℕ-discrete k i)

@@ -10,6 +10,7 @@ pub mod Prunes
 pub mod Cuts
 pub mod Hangs
 pub mod Leaves
+pub mod Roots
 pub mod Empties
 pub mod Shares
 pub mod Fills

@@ -1,13 +1,12 @@
 -- An emptied share keeps the trees, and so does a root that is set up anew.
-use mathlib.Core.Path.{_≡_, sym, ap, subst, _∙_}
-use mathlib.Core.Bool.{true, false}
+use mathlib.Core.Path.{_≡_, refl, sym, ap, subst, _∙_}
+use mathlib.Core.Bool.{true}
 use mathlib.Core.List.{List}
 use mathlib.Core.Logic.{_⊎_, inl, inr}
 use Prim.Native.Nat.{ℕ, _<_}
-use native.Mathlib.Nat.{mul-div-cancel, mul-lt-mul-of-pos-right}
 use native.Mathlib.Omega.{arith}
 use lib.Dec.{eqb}
-use borrow.Author.Tests.{eq-eqb, ne-eqb, eqb-true}
+use borrow.Author.Tests.{ne-eqb}
 use Rattle.paging.specs.Frame.{guest}
 use Rattle.tables.specs.State.{Machine, Shadow, onRecords, withRecord, tableCount, ownerOf, rootOf, entryCount, named}
 use Rattle.tables.specs.Steps.{emptyShare}
@@ -15,29 +14,9 @@ use Rattle.lawful.specs.Rules.{isLeaf, isRoot}
 use Rattle.trees.proofs.Trees.{Able, Outside, ent, lev, shd, Names, Branch, Trees, Less, Same}
 use Rattle.trees.proofs.Entries.{level-here, frame-here, level-other, frame-other, record-exact, zero-names-none}
 use Rattle.trees.proofs.Falls.{same-owner}
-use Rattle.trees.proofs.Hangs.{by-table}
+use Rattle.trees.proofs.Roots.{root-table, root-owner, root-not, root-level}
+use Rattle.trees.proofs.Hangs.{by-table, names-by}
 use Rattle.trees.proofs.Empties.{Emptied, share-emptied}
-
--- ---- roots
-
-module _ (M : Machine) (ok : Able M) where
-  pub root-table : (p : ℕ) → p < M .processors → rootOf M p < tableCount M
-  root-table p h = mul-lt-mul-of-pos-right h (ok .some)
-
-  pub root-owner : (p : ℕ) → ownerOf M (rootOf M p) ≡ p
-  root-owner p = mul-div-cancel p (ok .some)
-
-  pub root-is : (p : ℕ) → isRoot M (rootOf M p) ≡ true
-  unfolding isRoot
-  root-is p = eq-eqb (rootOf M p) (rootOf M (ownerOf M (rootOf M p))) (ap (rootOf M) (sym (root-owner p)))
-
-  pub root-not : (p t : ℕ) → ownerOf M t ≡ p → (t ≡ rootOf M p → ⊥) → isRoot M t ≡ false
-  unfolding isRoot
-  root-not p t o ne = ne-eqb t (rootOf M (ownerOf M t)) (λ q. ne (q ∙ ap (rootOf M) o))
-
-  -- a root has the highest level
-  pub root-level : (map : List ℕ) (s : Shadow) → Trees M map s → (p : ℕ) → p < M .processors → lev M s (rootOf M p) ≡ M .tables .levels
-  root-level map s trees p h = eqb-true _ _ (sym (trees .roots (rootOf M p) (root-table p h)) ∙ root-is p)
 
 module _ (M : Machine) (ok : Able M) (map : List ℕ) (outside : Outside M map) (s : Shadow) (trees : Trees M map s) (p : ℕ) (h : p < M .processors) where
   abbrev s′ : Shadow
@@ -76,12 +55,12 @@ module _ (M : Machine) (ok : Able M) (map : List ℕ) (outside : Outside M map) 
       never o = zero-names-none M (ent M s′ v k) (share-own v (m .table) o k (m .index)) (rw (m .names) (m .is))
 
       kept : (ownerOf M v ≡ p → ⊥) → Names M s v k x
-      kept ne = record { table = m .table; index = m .index; names = sym (ap (named M) (share-others v (m .table) ne .entries k (m .index))) ∙ m .names; is = m .is }
+      kept ne = names-by (sym (share-others v (m .table) ne .entries k (m .index))) m
 
   still : {v k x : ℕ} → (ownerOf M x ≡ p → ⊥) → Names M s v k x → Names M s′ v k x
   still {v} {k} {x} ne m =
       let same = share-others v (m .table) (λ o. ne (same-owner M map outside s trees m ∙ o)) in
-      record { table = m .table; index = m .index; names = ap (named M) (same .entries k (m .index)) ∙ m .names; is = m .is }
+      names-by (same .entries k (m .index)) m
 
   -- ---- table by table
 
@@ -180,12 +159,10 @@ module _ (M : Machine) (ok : Able M) (map : List ℕ) (s : Shadow) (trees : Tree
   -- it had its level already
   pub root-levels : (v : ℕ) → lev M s″ v ≡ lev M s v
   root-levels v =
+      let same = level-here M ok s (trees .exact) (rootOf M p) (M .tables .levels) (guest f) (root-table M ok p h) ∙ sym (root-level M ok map s trees p h) in
       by-table v (rootOf M p)
-      (λ q. ap (lev M s″) q ∙ level-here M ok s (trees .exact) (rootOf M p) (M .tables .levels) (guest f) (root-table M ok p h) ∙ sym (root-level M ok map s trees p h) ∙ ap (lev M s) (sym q))
+      (λ q. ap (lev M s″) q ∙ same ∙ ap (lev M s) (sym q))
       (level-other M ok s (trees .exact) (rootOf M p) (M .tables .levels) (guest f) (root-table M ok p h) v)
-
-  named-as : {v k x : ℕ} → Names M s″ v k x → Names M s v k x
-  named-as m = record { table = m .table; index = m .index; names = m .names; is = m .is }
 
   branch-as : {v e : ℕ} → (e ≡ 0) ⊎ Branch M s v e → (e ≡ 0) ⊎ Branch M s″ v e
   branch-as (inl z) = inl z
@@ -206,6 +183,6 @@ module _ (M : Machine) (ok : Able M) (map : List ℕ) (s : Shadow) (trees : Tree
     branch = λ v hv high k hk. branch-as (trees .branch v hv (omega (arith, root-levels v)) k hk);
     name = λ u hu lo hi.
         let m = trees .name u hu (omega (arith, root-levels u)) (omega (arith, root-levels u)) in
-        (m .0, m .1, record { table = m .2 .table; index = m .2 .index; names = m .2 .names; is = m .2 .is });
-    one = λ a b. trees .one (named-as a) (named-as b);
+        (m .0, m .1, names-by refl (m .2));
+    one = λ a b. trees .one (names-by refl a) (names-by refl b);
   }
