@@ -1,2 +1,3 @@
 pub mod GuestWalks
 pub mod Settles
+pub mod Begun
