@@ -126,7 +126,7 @@ module _ (z : Sizes) (map : List ℕ) (p a b : ℕ) (s : State) where
 
   -- ---- the walk of the guest's tables
 
-  trod-same : Same (walked .words) (s .words)
+  pub trod-same : Same (walked .words) (s .words)
   trod-same = treads z page (s .words) 4 (s .words) cr3 (start tables64 cr3) (same-refl (s .words)) refl .same
 
   pub marked-same : (last : Guest) → Same (marked last .words) (s .words)

@@ -24,7 +24,7 @@ use Rattle.tables.specs.declared.Path.{Path}
 use Rattle.tables.specs.State.{Machine, Shadow, onPool, onRecords, State, stateOf, machine64, slotCount, markOf, pageIn, placeIn, rightsIn, withSlot, withRecord, emptied, tableCount, ownerOf, rootOf, entryOf, withEntry, named, top, nextEntry, down, descend, pathTo, Sized}
 use Rattle.tables.specs.Steps.{flush, emptySlots, emptyShare}
 use Rattle.tables.proofs.Counts.{by-cases}
-use Rattle.shadow.specs.declared.Answer.the-variants.{Done, NoStep, Again}
+use Rattle.shadow.specs.declared.Answer.the-variants.{Done, NoStep}
 use Rattle.shadow.specs.declared.Place.{Place}
 use Rattle.shadow.specs.declared.Place.the-variants.{At, Off}
 use Rattle.shadow.specs.After.{Result, leafCleared, afterInvlpg, afterCr3, afterBegin, afterExtend, afterLoss, gives, byPlace, placeOf, placeBelow}
@@ -114,20 +114,20 @@ module _ (z : Sizes) (ok : Sized z) (map : List ℕ) (fits : Mapped z map) (p : 
   -- ---- "Extend: a partial slot whose shadow entry is present moves one level; else kind 4."
 
   module _ (k : ℕ) (hk : k < slotCount) where
-    abbrev mark : ℕ
+    abbrev pub mark : ℕ
     mark = markOf (s .slots) p k
 
-    abbrev page : ℕ
+    abbrev pub page : ℕ
     page = pageIn (s .slots) p k
 
     -- the slot's path, where it is partial
-    abbrev path : Path
+    abbrev pub path : Path
     path = pathTo M (s .shadow .pool) p page (mark - 1)
 
-    abbrev next : ℕ
+    abbrev pub next : ℕ
     next = nextEntry M (s .shadow .pool) page path
 
-    paged : page < 2 ^ 36
+    pub paged : page < 2 ^ 36
     paged = right-page M (s .shadow .pool) (s .slots) p k (r .law .slots p hp k hk)
 
     -- from level 1 it moves to a guest frame, from above to a table
@@ -224,10 +224,10 @@ module _ (z : Sizes) (ok : Sized z) (map : List ℕ) (fits : Mapped z map) (p : 
     pub extend-words : length (afterExtend M map p k s .state .words) ≡ length (s .words)
     extend-words = by-cases extends (λ q. ap (λ (x : State). length (x .words)) q) (λ m. ap (λ (x : State). length (x .words)) (m .is))
 
--- no extension asks to be put again
-pub extend-once : (M : Machine) (map : List ℕ) (p k : ℕ) (s : State) → afterExtend M map p k s .answer ≡ Again → ⊥
+-- an extension is done, or takes no step
+pub extend-answer : (M : Machine) (map : List ℕ) (p k : ℕ) (s : State) → (afterExtend M map p k s .answer ≡ Done) ⊎ (afterExtend M map p k s .answer ≡ NoStep)
 unfolding afterExtend
-extend-once M map p k s = go (ltb 1 mark && isPresent e) (placeBelow M map (mark - 1) e)
+extend-answer M map p k s = go (ltb 1 mark && isPresent e) (placeBelow M map (mark - 1) e)
   where
     mark : ℕ
     mark = markOf (s .slots) p k
@@ -238,7 +238,7 @@ extend-once M map p k s = go (ltb 1 mark && isPresent e) (placeBelow M map (mark
     on : ℕ → Result
     on place = gives Done (stateOf (s .words) (s .shadow) (withSlot p k (mark - 1) (pageIn (s .slots) p k) place (meet (rightsIn (s .slots) p k) (rightsOf (M .tables) e)) (s .slots)))
 
-    go : (b : Bool) (x : Place) → cond b (byPlace x on (gives NoStep s)) (gives NoStep s) .answer ≡ Again → ⊥
-    go true (At x) q = let n : _≡_ {A = ℕ} 0 1 = cc in omega arith
-    go true Off q = let n : _≡_ {A = ℕ} 0 1 = cc in omega arith
-    go false x q = let n : _≡_ {A = ℕ} 0 1 = cc in omega arith
+    go : (b : Bool) (x : Place) → (cond b (byPlace x on (gives NoStep s)) (gives NoStep s) .answer ≡ Done) ⊎ (cond b (byPlace x on (gives NoStep s)) (gives NoStep s) .answer ≡ NoStep)
+    go true (At x) = inl refl
+    go true Off = inr refl
+    go false x = inr refl

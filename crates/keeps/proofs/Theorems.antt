@@ -11,18 +11,19 @@ use Rattle.paging.specs.Request.{requestOf}
 use Rattle.rules.specs.declared.Event.{Event}
 use Rattle.tables.specs.declared.Sizes.{Sizes}
 use Rattle.tables.specs.State.{Machine, State, machine64, Sized}
+use Rattle.tables.proofs.Counts.{by-cases}
 use Rattle.lawful.specs.Rules.{lawful}
 use Rattle.rules.specs.History.{eventRefusal}
 use Rattle.shadow.specs.declared.Answer.{Answer}
-use Rattle.shadow.specs.declared.Answer.the-variants.{Done, Again, Address}
+use Rattle.shadow.specs.declared.Answer.the-variants.{Done, Address, Again, NoStep, Refused}
 use Rattle.shadow.specs.After.{Result, asSetup, callRefusal, after, afterInvlpg, afterCr3, afterAccess, afterBegin, afterLoss}
 use Rattle.shadow.proofs.Accepted.{accepted-ranged, accepted-sized, accepted-own, accepted-words, accepted-frames, accepted-event}
 use Rattle.trees.proofs.Entries.{able64}
 use Rattle.trees.proofs.Rules.{lawful-is}
 use Rattle.keeps.proofs.Right.{Mapped, Right, words-right, reshaped-right}
-use Rattle.keeps.proofs.Moves.{loss-right, begin-right, extend-right, extend-words, extend-once}
+use Rattle.keeps.proofs.Moves.{loss-right, begin-right, extend-right, extend-words, extend-answer}
 use Rattle.keeps.proofs.Takes.{invlpg-reshapes, cr3-reshapes}
-use Rattle.keeps.proofs.Accesses.{served, access-right, access-words}
+use Rattle.keeps.proofs.Accesses.{Way, slot, shadow, fault, lacks, again, ways, served, access-right, access-words}
 use Rattle.keeps.proofs.Again.{Serves, access-serves}
 use Rattle.keeps.proofs.Accepts.{same-tests, accepts}
 use Rattle.keeps.proofs.Events.{Kind, store, invlpg, cr3, access, begin, extend, loss, accepted-mapped, accepted-right, kinds}
@@ -93,7 +94,10 @@ module _ (z : Sizes) (map : List ℕ) (s : State) (e : Event) (ok : callRefusal 
   serves (invlpg q o) g = unlike o g (unfold afterInvlpg in refl)
   serves (cr3 q h o) g = unlike o g (unfold afterCr3 in refl)
   serves (begin q h o) g = unlike o g (unfold afterBegin in refl)
-  serves (extend q h o) g = absurd (extend-once (machine64 z) map (e .proc) (e .a) s (sym (ap (λ (y : Result). y .answer) o) ∙ g))
+  serves (extend q h o) g =
+      by-cases (extend-answer (machine64 z) map (e .proc) (e .a) s)
+      (λ d. unlike o g d)
+      (λ d. let x : NoStep ≡ Again = sym d ∙ sym (ap (λ (y : Result). y .answer) o) ∙ g in let n : _≡_ {A = ℕ} 0 1 = cc in absurd (omega arith))
   serves (loss q h o) g = unlike o g (unfold afterLoss in refl)
 
   pub again-serves : after (machine64 z) map s e .answer ≡ Again → (e .kind ≡ 4) × Serves z s′ (e .proc) (pageOf tables64 (e .a)) (requestOf tables64 (e .b))
@@ -119,3 +123,29 @@ pub again-address : (z : Sizes) (map : List ℕ) (s : State) (e : Event) → cal
 again-address z map s e ok g =
     let sv = again-serves z map s e ok g in
     served-address z map (after (machine64 z) map s e .state) e (next-accepted z map s e ok e (accepted-event z map s e ok)) (sv .0) (sv .1)
+
+-- AN ACCEPTED CALL ANSWERS NO REFUSAL
+pub never-refused : (z : Sizes) (map : List ℕ) (s : State) (e : Event) → callRefusal (machine64 z) map s e ≡ 0 → (n : ℕ) → after (machine64 z) map s e .answer ≡ Refused n → ⊥
+never-refused z map s e ok n refused = go (kinds z map s e ok) refused
+  where
+    other : {out x : Result} → out ≡ x → out .answer ≡ Refused n → x .answer ≡ Done → ⊥
+    other o g d = let q : Done ≡ Refused n = sym d ∙ sym (ap (λ (y : Result). y .answer) o) ∙ g in let m : _≡_ {A = ℕ} 0 1 = cc in omega arith
+
+    way : {out : Result} → Way z map (e .proc) (e .a) (e .b) s out → out .answer ≡ Refused n → ⊥
+    way (slot k h x o) g = let q = sym (ap (λ (y : Result). y .answer) o) ∙ g in let m : _≡_ {A = ℕ} 0 1 = cc in omega arith
+    way (shadow h x o) g = let q = sym (ap (λ (y : Result). y .answer) o) ∙ g in let m : _≡_ {A = ℕ} 0 1 = cc in omega arith
+    way (fault base x o) g = let q = sym (ap (λ (y : Result). y .answer) o) ∙ g in let m : _≡_ {A = ℕ} 0 1 = cc in omega arith
+    way (lacks last w x y o) g = let q = sym (ap (λ (y : Result). y .answer) o) ∙ g in let m : _≡_ {A = ℕ} 0 1 = cc in omega arith
+    way (again last w x y o) g = let q = sym (ap (λ (y : Result). y .answer) o) ∙ g in let m : _≡_ {A = ℕ} 0 1 = cc in omega arith
+
+    go : {out : Result} → Kind z map s e out → out .answer ≡ Refused n → ⊥
+    go (store x h o) g = other o g refl
+    go (invlpg x o) g = other o g (unfold afterInvlpg in refl)
+    go (cr3 x h o) g = other o g (unfold afterCr3 in refl)
+    go (access x h o) g = way (ways z map (e .proc) (e .a) (e .b) s) (sym (ap (λ (y : Result). y .answer) o) ∙ g)
+    go (begin x h o) g = other o g (unfold afterBegin in refl)
+    go (extend x h o) g =
+        by-cases (extend-answer (machine64 z) map (e .proc) (e .a) s)
+        (λ d. other o g d)
+        (λ d. let q : NoStep ≡ Refused n = sym d ∙ sym (ap (λ (y : Result). y .answer) o) ∙ g in let m : _≡_ {A = ℕ} 0 1 = cc in omega arith)
+    go (loss x h o) g = other o g (unfold afterLoss in refl)

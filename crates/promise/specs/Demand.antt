@@ -60,6 +60,11 @@ pub record Run : Type 0 where
   pub events : List Event
   pub lost : ℕ → Losses
 
+-- "Between the puts other processors may do anything; the same processor may store and take walk steps, but no INVLPG,
+-- CR3 write or other access."
+abbrev pub mayStandBetween : ℕ → Event → Bool
+mayStandBetween p e = not (isBy p e) || (isStore e || (isBegin e || (isExtend e || isDrop e)))
+
 module _ (F : Fresh) (r : Run) where
   -- the state at moment k, and after the losses of that moment
   unfoldable pub stateAt : ℕ → State
@@ -88,11 +93,6 @@ module _ (F : Fresh) (r : Run) where
     pub list : List Outcome
     pub right : RightAt (guestOf F) (r .events) (questionAt k) k list
     pub stands : List·Memᴰ outcome list
-
-  -- "Between the puts other processors may do anything; the same processor may store and take walk steps, but no INVLPG,
-  -- CR3 write or other access."
-  abbrev pub mayStandBetween : ℕ → Event → Bool
-  mayStandBetween p e = not (isBy p e) || (isStore e || (isBegin e || (isExtend e || isDrop e)))
 
   -- the access of moment k settles, or it is to be put again and then settles
   abbrev pub SettlesInTwo : ℕ → Type 0

@@ -1,0 +1,100 @@
+-- From a fresh machine: the invariant holds at every moment of a run, and every event that fits is taken.
+use mathlib.Core.Path.{_≡_, refl, sym, ap, _∙_}
+use mathlib.Core.List.{List}
+use mathlib.Core.Bool.{Bool, true, false, _&&_}
+use Prim.Native.Nat.{ℕ, zero, suc, _+_, _*_, _^_, _≤_, _<_}
+use native.Mathlib.Omega.{arith}
+use lib.Dec.{eqb}
+use lib.ListN.{length, getD}
+use Rattle.paging.specs.Layout.{frameWords}
+use Rattle.rules.specs.declared.Event.{Event}
+use Rattle.rules.specs.History.{Fit, eventAt, eventRefusal, wordsAt, cr3At}
+use Rattle.tables.specs.declared.Sizes.{Sizes}
+use Rattle.tables.specs.State.{Machine, State, machine64, slotCount, markOf, nextEntry, pathTo, Sized}
+use Rattle.shadow.specs.declared.Answer.{Answer}
+use Rattle.shadow.specs.declared.Answer.the-variants.{Refused}
+use Rattle.shadow.specs.After.{Result, rangesFit, lengthsFit, framesFit, callRefusal, after, afterInvlpg, afterCr3, afterBegin, afterLoss}
+use Rattle.shadow.proofs.Sizing.{both, Ranged, ranged}
+use Rattle.shadow.proofs.Starting.{accepted-sizes, setup-exact, setup-sized}
+use Rattle.trees.proofs.Entries.{able64}
+use Rattle.trees.proofs.Paths.{zero-absent}
+use Rattle.trees.proofs.SlotRules.{empty-right}
+use Rattle.keeps.proofs.Alikes.{same-refl}
+use Rattle.keeps.proofs.Right.{Mapped, Right}
+use Rattle.keeps.proofs.Events.{mapped}
+use Rattle.keeps.proofs.Accepts.{same-tests, accepts}
+use Rattle.promise.specs.Demand as D
+use Rattle.promise.specs.Demand.{Fresh, Run, machineOf, guestOf, stateAt, before, losing}
+use Rattle.promise.proofs.Begun.{begun-entries, begun-frame, begun-slots, begun-triples, begun-trees}
+use Rattle.promise.proofs.Holds.{Holds, no-path, no-slot}
+use Rattle.promise.proofs.Carried.{carried}
+use Rattle.promise.proofs.Losing.{losing-holds}
+
+module _ (F : Fresh) (fresh : D.Sized F) where
+  abbrev z : Sizes
+  z = F .sizes
+
+  shown : ((rangesFit (machine64 z) && lengthsFit (machine64 z) (F .map) (D.begun F .shadow) (D.begun F .slots) && eqb (length (F .cr3s)) (z .processors)) ≡ true)
+      × (framesFit (machine64 z) (F .map) ≡ true)
+  shown = accepted-sizes z (F .map) (F .cr3s) (D.begun F) (fresh .setup)
+
+  pub sized : Sized z
+  sized = setup-sized z (F .map) (F .cr3s) (D.begun F) (shown .0) (shown .1)
+
+  pub ranges : Ranged z
+  ranges =
+      let h = both (rangesFit (machine64 z) && lengthsFit (machine64 z) (F .map) (D.begun F .shadow) (D.begun F .slots)) (eqb (length (F .cr3s)) (z .processors)) (shown .0) in
+      ranged z (both (rangesFit (machine64 z)) (lengthsFit (machine64 z) (F .map) (D.begun F .shadow) (D.begun F .slots)) (h .0) .0)
+
+  pub fits : Mapped z (F .map)
+  fits = mapped z (F .map) (setup-exact z (F .map) (F .cr3s) (D.begun F) (shown .0) (shown .1) .guests) (shown .1)
+
+  module _ (r : Run) (fit : Fit (guestOf F) (r .events)) where
+    abbrev At : ℕ → State → Type 0
+    At k s = Holds z (F .map) (F .words) (F .cr3s) (r .events) k s
+
+    start-right : Right z (F .map) (D.begun F)
+    start-right = record {
+      law = record {
+        trees = begun-trees (machine64 z) (able64 z sized) (F .cr3s) (F .words) (F .map) (fit .starts);
+        slots = λ p hp j hj.
+            let e = begun-slots (machine64 z) (able64 z sized) (F .cr3s) (F .words) p j in
+            empty-right (machine64 z) (D.begun F .shadow .pool) (D.begun F .slots) p j (record { mark = e .0; page = e .1; third = omega (arith, e .2, e .3) });
+      };
+      triples = begun-triples (machine64 z) (able64 z sized) (F .cr3s) (F .words);
+    }
+
+    begins : At 0 (D.begun F)
+    unfolding wordsAt cr3At
+    begins = record {
+      right = start-right;
+      size = fresh .words;
+      words = same-refl (F .words);
+      roots = λ p hp. begun-frame (machine64 z) (able64 z sized) (F .cr3s) (F .words) p hp;
+      paths = λ p hp v hv. no-path z (F .map) (F .words) (F .cr3s) (r .events) (zero-absent _ (begun-entries (machine64 z) (able64 z sized) (F .cr3s) (F .words) _ _));
+      slots = λ p hp j hj. no-slot z (F .map) (F .words) (F .cr3s) (r .events) (λ m. omega (arith, begun-slots (machine64 z) (able64 z sized) (F .cr3s) (F .words) p j .0));
+    }
+
+    -- an event of the run, in a state that the invariant holds of
+    taken : (k : ℕ) → k < length (r .events) → (s : State) → At k s → callRefusal (machine64 z) (F .map) s (eventAt (r .events) k) ≡ 0
+    taken k hk s h =
+        accepts z (F .map) s ranges sized fits (shown .1) (h .right) (h .size) (eventAt (r .events) k)
+        (sym (same-tests z s (F .words) (F .cr3s) (eventAt (r .events) k)) ∙ fit .events k hk)
+
+    lost : (k : ℕ) → At k (stateAt F r k) → At k (before F r k)
+    lost k h = losing-holds z (F .map) (F .words) (F .cr3s) (r .events) k (r .lost k) (stateAt F r k) h
+
+    -- THE INVARIANT HOLDS AT EVERY MOMENT
+    pub holds : (k : ℕ) → k ≤ length (r .events) → At k (stateAt F r k)
+    unfolding stateAt
+    holds zero hk = begins
+    holds (suc k) hk =
+        let h = lost k (holds k (omega arith)) in
+        carried z (F .map) (F .words) (F .cr3s) (r .events) k (before F r k) h (taken k (omega arith) (before F r k) h)
+
+    pub holds-before : (k : ℕ) → k ≤ length (r .events) → At k (before F r k)
+    holds-before k hk = lost k (holds k hk)
+
+    -- AND EVERY EVENT IS TAKEN
+    pub accepted : (k : ℕ) → k < length (r .events) → callRefusal (machine64 z) (F .map) (before F r k) (eventAt (r .events) k) ≡ 0
+    accepted k hk = taken k hk (before F r k) (holds-before k (omega arith))
