@@ -9,7 +9,7 @@ use lib.Dec.{T, eqb, ltb, leb}
 use lib.ListN.{length, getD}
 use borrow.Author.Tests.{leb-true, leb-false, ltb-true, ltb-false, eqb-true, not-false}
 use Rattle.paging.specs.Numbers.{isBetween, tab}
-use Rattle.paging.specs.Frame.{mapFits}
+use Rattle.paging.specs.Frame.{mapFits, cr3sFit}
 use Rattle.paging.specs.Layout.{tables64, frameWords}
 use Rattle.paging.proofs.Tests.{and-l, and-r, T-true, true-T}
 use Rattle.paging.proofs.Numbers.{all-at, tab-length, tab-at}
@@ -19,7 +19,7 @@ use Rattle.rules.specs.History.{Setup, Fit, eventAt, eventRefusal, eventTests}
 use Rattle.rules.specs.Outcome.{questionRefusal}
 use Rattle.rules.proofs.Ranges.{Clear, clear, event-clear, cr3-within}
 use Rattle.marks.specs.Work.{workBytes, Room}
-use Rattle.listing.specs.Call.{Asked, Lent, setupOf, sizesFit, lengthsFit, cr3sFit, orElse, firstRefusal, listRefusal}
+use Rattle.listing.specs.Call.{Asked, Lent, setupOf, sizesFit, lengthsFit, orElse, firstRefusal, listRefusal}
 use Rattle.rules.specs.Numbers.{eventOf, eventsOf}
 use Rattle.listing.specs.Replay.{Reach}
 use Rattle.listing.specs.Answer.{Ready}

@@ -35,3 +35,7 @@ isNew map i = all i (λ j. not (eqb (getD map j 0) (getD map i 0)))
 
 unfoldable pub mapFits : ℕ → List ℕ → Bool
 mapFits limit map = all (length map) (λ i. ltb (getD map i 0) limit && isNew map i)
+
+-- "CR3 frame ≥ G": of a start's CR3s, each names a guest frame
+unfoldable pub cr3sFit : ℕ → List ℕ → Bool
+cr3sFit G cr3s = all (length cr3s) (λ p. ltb (getD cr3s p 0) G)

@@ -12,11 +12,11 @@ use lib.ListN.{length, getD, List·getD-eq-default}
 use borrow.Author.Tests.{leb-true, ltb-true, eqb-true}
 use Rattle.paging.specs.Frame.{isNew, mapFits}
 use Rattle.paging.specs.Layout.{frameWords}
-use Rattle.paging.specs.Numbers.{all}
+use Rattle.paging.specs.Numbers.{all, isBetween}
 use Rattle.paging.proofs.Numbers.{all-at}
 use Rattle.tables.specs.declared.Sizes.{Sizes}
 use Rattle.tables.specs.State.{Shadow, machine64, tableCount, Sized}
-use Rattle.shadow.specs.After.{isBetween, rangesFit, lengthsFit, poolFits, inPool, framesFit}
+use Rattle.shadow.specs.After.{rangesFit, lengthsFit, poolFits, inPool, framesFit}
 
 pub both : (a b : Bool) → a && b ≡ true → (a ≡ true) × (b ≡ true)
 both true b e = (refl, e)

@@ -10,13 +10,13 @@ use lib.ListN.{length, take, drop, getD, length-append}
 use lib.Seq.{take-append-seam}
 use borrow.Author.Tests.{eq-eqb, ne-eqb, lt-ltb, le-leb, leb-true}
 use Rattle.paging.specs.Numbers.{all, isBetween}
-use Rattle.paging.specs.Frame.{isNew, mapFits}
+use Rattle.paging.specs.Frame.{isNew, mapFits, cr3sFit}
 use Rattle.paging.specs.Layout.{frameWords}
 use Rattle.paging.proofs.Numbers.{all-none, all-more}
 use Rattle.rules.specs.declared.Question.{Question}
 use Rattle.rules.specs.History.{eventRefusal}
 use Rattle.rules.specs.Outcome.{questionRefusal}
-use Rattle.listing.specs.Call.{Asked, Lent, asked, lent, setupOf, sizesFit, cr3sFit, firstRefusal, listRefusal}
+use Rattle.listing.specs.Call.{Asked, Lent, asked, lent, setupOf, sizesFit, firstRefusal, listRefusal}
 use Rattle.rules.specs.Numbers.{eventOf, questionOf}
 use Rattle.listing.proofs.Refuses.{or-second, first-none, first-more, list-later}
 use Rattle.sections.specs.Sections.{Got, got, refused, Puzzle, puzzleOf}
