@@ -157,13 +157,12 @@ pub fn is_between(lo: u64, hi: u64, x: u64) -> bool
     x <= hi
 }
 
-fn is_new(map: &[u64], i: usize) -> bool
-    requires { ⌜ i < length (now map) ⌝ }
-    ensures { λ r. ⌜ r ≡ isNew (now (map .entry)) i ⌝ }
+pub fn is_new(map: &[u64], n: usize, f: u64) -> bool
+    requires { ⌜ n ≤ length (now map) ⌝ }
+    ensures { λ r. ⌜ r ≡ isNew (now (map .entry)) n f ⌝ }
 {
-    let f = map[i];
     let mut j = 0;
-    while j < i {
+    while j < n {
         if map[j] == f {
             return false;
         }
@@ -178,10 +177,11 @@ pub fn map_fits(map: &[u64]) -> bool
 {
     let mut i = 0;
     while i < map.len() {
-        if map[i] >= 0x100_0000_0000 {
+        let f = map[i];
+        if f >= 0x100_0000_0000 {
             return false;
         }
-        if !is_new(map, i) {
+        if !is_new(map, i, f) {
             return false;
         }
         i += 1;

@@ -10,13 +10,14 @@ use borrow.Author.Tests.{eq-eqb, ne-eqb, eqb-true, not-false}
 use Rattle.paging.specs.Layout.{frameWords}
 use Rattle.paging.specs.Frame.{mapFits, cr3sFit}
 use Rattle.paging.specs.Numbers.{all}
+use Rattle.paging.proofs.Tests.{both}
 use Rattle.rules.specs.Refusal.{Test, test, refusal}
 use Rattle.rules.proofs.Ranges.{Clear, clear}
 use Rattle.tables.specs.declared.Sizes.{Sizes}
 use Rattle.tables.specs.State.{Machine, Shadow, shadowOf, State, stateOf, machine64, tableCount, Sized, Room}
 use Rattle.shadow.specs.declared.Answer.the-variants.{Done, Refused}
 use Rattle.shadow.specs.After.{gives, rangesFit, lengthsFit, poolFits, inPool, framesFit, rooted, started, setupRefusal, afterSetup}
-use Rattle.shadow.proofs.Sizing.{both, Ranged, ranged, sized, Exact, exact}
+use Rattle.shadow.proofs.Sizing.{Ranged, ranged, sized, Exact, exact}
 use Rattle.shadow.proofs.Accepted.{first-two, neither}
 
 module _ (z : Sizes) (map cr3s : List ℕ) (s : State) where
