@@ -37,7 +37,7 @@ never p c zero h k = k
 never p c (suc l) h k = h
 
 module _ (seen : View) where
-  -- does event k + 1 end this walk?
+  -- whether event k + 1 ends this walk
   abbrev pub ends : Walk → ℕ → Bool
   ends w k = byLevel (seen .endsPartial k) (seen .endsComplete k) (w .level)
 
