@@ -16,7 +16,7 @@ use Rattle.rules.proofs.Steps.{Kept, extend}
 use Rattle.tables.specs.declared.Walked.{Walked}
 use Rattle.tables.specs.declared.Walked.the-variants.{Whole, Fault}
 use Rattle.tables.specs.Steps.{Trod, trod, byStep, walkFrom}
-use Rattle.promise.proofs.Alikes.{Same, same-trans, same-mark-a, same-step}
+use Rattle.keeps.proofs.Alikes.{Same, same-trans, same-mark-a, same-step}
 
 module _ (seen : View) (G page k : ℕ) (rules : List ℕ) (law : Lawful seen 4 G)
     (reads : (w : Walk) → seen .steps k w ≡ step tables64 G w (get tables64 rules (w .frame .0) (index tables64 page (w .level)))) where

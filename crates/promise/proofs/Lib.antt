@@ -1,3 +1,3 @@
-pub mod Alikes
 pub mod GuestWalks
 pub mod Settles
+pub mod Begun

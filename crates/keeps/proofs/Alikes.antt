@@ -61,7 +61,11 @@ pub same-mark-d : (xs : List ℕ) (f i : ℕ) → Same (put tables64 xs f i (mar
 unfolding put get
 same-mark-d xs f i = same-touch xs (512 * f + i) (mark 6 (getD xs (512 * f + i) 0)) (mark-d-alike (getD xs (512 * f + i) 0))
 
+-- an entry of both
+pub same-get : {xs ys : List ℕ} → Same xs ys → (f i : ℕ) → Alike (get tables64 xs f i) (get tables64 ys f i)
+unfolding get
+same-get s f i = s .each (512 * f + i)
+
 -- A WALK DOES THE SAME ON BOTH
 pub same-step : {xs ys : List ℕ} → Same xs ys → (G : ℕ) (w : Walk) (f i : ℕ) → step tables64 G w (get tables64 xs f i) ≡ step tables64 G w (get tables64 ys f i)
-unfolding get
-same-step s G w f i = step-alike tables64 tables64-sound G w (s .each (512 * f + i))
+same-step s G w f i = step-alike tables64 tables64-sound G w (same-get s f i)

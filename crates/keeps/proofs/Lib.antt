@@ -1,0 +1,2 @@
+pub mod Alikes
+pub mod Treads
