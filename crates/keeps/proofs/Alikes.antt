@@ -28,6 +28,9 @@ pub record Same (xs ys : List ℕ) : Type 0 where
 pub same-refl : (xs : List ℕ) → Same xs xs
 same-refl xs = record { size = refl; each = λ i. alike-refl (getD xs i 0) }
 
+pub same-sym : {xs ys : List ℕ} → Same xs ys → Same ys xs
+same-sym a = record { size = sym (a .size); each = λ i. alike-sym (a .each i) }
+
 pub same-trans : {xs ys zs : List ℕ} → Same xs ys → Same ys zs → Same xs zs
 same-trans a b = record { size = a .size ∙ b .size; each = λ i. alike-trans (a .each i) (b .each i) }
 

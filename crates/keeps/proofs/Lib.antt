@@ -1,2 +1,12 @@
 pub mod Alikes
 pub mod Treads
+pub mod Right
+pub mod Moves
+pub mod Takes
+pub mod Filled
+pub mod Grants
+pub mod Accesses
+pub mod Again
+pub mod Events
+pub mod Accepts
+pub mod Theorems

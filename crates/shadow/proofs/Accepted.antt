@@ -54,6 +54,11 @@ unfolding refusal
 refusal-then [] us c = refl
 refusal-then (t ∷ ts) us c = ap (λ (b : Bool). cond b (t .number) (refusal (ts ++ us))) (c .0) ∙ refusal-then ts us (c .1)
 
+pub refusal-none : (ts : List Test) → Clear ts → refusal ts ≡ 0
+unfolding refusal
+refusal-none [] c = refl
+refusal-none (t ∷ ts) c = ap (λ (b : Bool). cond b (t .number) (refusal ts)) (c .0) ∙ refusal-none ts (c .1)
+
 -- ---- what tests say that are not met
 
 no-and : (a b : Bool) → a && b ≡ false → a ≡ true → b ≡ false
@@ -208,10 +213,13 @@ module _ (z : Sizes) (map : List ℕ) (s : State) (e : Event) where
     pub accepted-words : length (s .words) ≡ frameWords * z .frames
     accepted-words = lengths .2
 
+    pub accepted-frames : framesFit M map ≡ true
+    accepted-frames = not-false _ (none-met .1 .0)
+
     frames : (poolFits M ≡ true) × (mapFits (2 ^ 40) map ≡ true)
     unfolding framesFit
     frames =
-        let h = both (poolFits M && mapFits (2 ^ 40) map) (all (length map) (λ i. not (inPool M (getD map i 0)))) (not-false _ (none-met .1 .0)) in
+        let h = both (poolFits M && mapFits (2 ^ 40) map) (all (length map) (λ i. not (inPool M (getD map i 0)))) accepted-frames in
         both (poolFits M) (mapFits (2 ^ 40) map) (h .0)
 
     pub accepted-sized : Sized z
@@ -231,6 +239,15 @@ module _ (z : Sizes) (map : List ℕ) (s : State) (e : Event) where
     by-rule =
         let h = both (all (tableCount M) (tableRight M map (s .shadow)) && all (z .processors) (λ p. tableWhole M map (s .shadow .pool) 4 (rootOf M p))) (all (z .processors) (λ p. all 8 (slotRight M (s .shadow .pool) (s .slots) p))) accepted-lawful in
         (both (all (tableCount M) (tableRight M map (s .shadow))) (all (z .processors) (λ p. tableWhole M map (s .shadow .pool) 4 (rootOf M p))) (h .0) .0, h .1)
+
+    pub accepted-event : eventRefusal (asSetup M s) e ≡ 0
+    unfolding eventRefusal
+    accepted-event =
+        let t = none-met .1 .1 .1 in
+        refusal-none (eventTests (asSetup M s) e) (t .0, (t .1 .0, (t .1 .1 .0, (t .1 .1 .1 .0, (t .1 .1 .1 .1 .0, (t .1 .1 .1 .1 .1 .0, (t .1 .1 .1 .1 .1 .1 .0, tt)))))))
+
+    pub accepted-cr3 : isCr3Write e ≡ true → e .a < z .frames
+    accepted-cr3 q = leb-false (z .frames) (e .a) (no-and (isCr3Write e) (leb (z .frames) (e .a)) (none-met .1 .1 .1 .1 .1 .1 .0) q)
 
     pub ready : Ready z map (s .shadow .records) (s .slots) (e .proc)
     ready =

@@ -23,7 +23,7 @@ use Rattle.shadow.specs.After.{Result, gives, byPlace, placeOf, placeBel
 
 -- ---- places are small
 
-origin-small : (map : List ℕ) (h : Host) (k : ℕ) (g : Guest) → originFrom k map h ≡ Of g → g .0 < k + length map
+pub origin-small : (map : List ℕ) (h : Host) (k : ℕ) (g : Guest) → originFrom k map h ≡ Of g → g .0 < k + length map
 unfolding originFrom
 origin-small [] h k g e = let z : _≡_ {A = ℕ} 0 1 = cc in absurd (omega arith)
 origin-small (x ∷ xs) h k g e = go (eqb x (h .0)) e (origin-small xs h (k + 1) g)

@@ -36,7 +36,7 @@ abbrev pub at : ℕ → ℕ → ℕ → Path
 at n t r = record { level = n; table = t; rights = r }
 
 -- the first that passes passes
-first-passes : (t : ℕ → Bool) (n i : ℕ) → firstFrom i n t < i + n → t (firstFrom i n t) ≡ true
+pub first-passes : (t : ℕ → Bool) (n i : ℕ) → firstFrom i n t < i + n → t (firstFrom i n t) ≡ true
 unfolding firstFrom
 first-passes t zero i h = absurd (omega arith)
 first-passes t (suc n) i h = go (t i) refl h (first-passes t n (i + 1))
@@ -217,6 +217,7 @@ module _ (M : Machine) (ok : Able M) (map : List ℕ) (outside : Outside M map) 
     pub rights : ℕ
     pub path : pathTo M (s .pool) p page 1 ≡ at 1 table rights
     pub is : nextEntry M (s .pool) page (pathTo M (s .pool) p page 1) ≡ leafOf Y map entry
+    pub present : isPresent entry ≡ true
     pub inside : frameOf Y entry < M .frames
     pub frame : guest (frameOf Y entry) ≡ f
     pub total : meet rights (rightsOf Y entry) ≡ x
@@ -279,6 +280,7 @@ module _ (M : Machine) (ok : Able M) (map : List ℕ) (outside : Outside M map) 
         rights = h .rights;
         path = leaf-path M ok map outside s trees p hp page t (leafOf Y map e) (h .table) (leveled s trees h .0) at-t (made .small) p page hp ∙ h .path;
         is = leaf-here M ok map outside s trees p hp page t (leafOf Y map e) (h .table) (leveled s trees h .0) at-t (made .small) ∙ ap (leafOf Y map) here;
+        present = rw here at (h .leads .0);
         inside = rw here at (h .leads .1);
         frame = ap (λ (y : ℕ). guest (frameOf Y y)) (sym here) ∙ h .leads .3 .0;
         total = ap (λ (y : ℕ). meet (h .rights) (rightsOf Y y)) (sym here) ∙ h .leads .3 .1;

@@ -1,0 +1,89 @@
+-- An accepted call: what it is known to be, and which of the seven kinds it is.
+use mathlib.Core.Path.{_≡_, refl, sym, ap, _∙_}
+use mathlib.Core.Bool.{Bool, true, false, not, _&&_}
+use mathlib.Core.List.{List}
+use Prim.Native.Nat.{ℕ, _+_, _*_, _^_, _≤_, _<_}
+use native.Mathlib.Decide.{ℕ-discrete}
+use native.Mathlib.Omega.{arith}
+use lib.Dec.{ltb, leb, eqb}
+use lib.ListN.{length, getD}
+use borrow.Author.Tests.{eq-eqb, le-leb, lt-ltb, not-true}
+use Rattle.paging.specs.Frame.{mapFits}
+use Rattle.paging.specs.Numbers.{all}
+use Rattle.paging.proofs.Numbers.{all-at}
+use Rattle.paging.proofs.Tests.{both}
+use Rattle.rules.specs.declared.Event.{Event}
+use Rattle.rules.specs.History.{isCr3Write}
+use Rattle.rules.proofs.Ranges.{cr3-within}
+use Rattle.tables.specs.declared.Sizes.{Sizes}
+use Rattle.tables.specs.State.{Machine, State, machine64, tableCount, Sized}
+use Rattle.shadow.specs.After.{Result, asSetup, poolFits, inPool, framesFit, callRefusal, after, decode, moved, afterStore, afterInvlpg, afterCr3, afterAccess, afterBegin, afterExtend, afterLoss}
+use Rattle.shadow.proofs.Sizing.{hosts-below}
+use Rattle.shadow.proofs.Accepted.{accepted-ranged, accepted-exact, accepted-words, accepted-frames, accepted-sized, accepted-map, accepted-lawful, accepted-own, accepted-cr3, fitting}
+use Rattle.shadow.proofs.Moves.{seventh, moved-store, moved-invlpg, moved-cr3, moved-access, moved-begin, moved-extend, moved-loss}
+use Rattle.trees.proofs.Trees.{Outside}
+use Rattle.trees.proofs.Entries.{able64}
+use Rattle.trees.proofs.Rules.{lawful-is}
+use Rattle.keeps.proofs.Right.{Mapped, Right}
+
+-- a map that fits
+pub mapped : (z : Sizes) (map : List ℕ) → length map ≡ z .frames → framesFit (machine64 z) map ≡ true → Mapped z map
+unfolding framesFit inPool
+mapped z map guests fits = record {
+  guests = guests;
+  within = λ k h. hosts-below (2 ^ 40) (omega arith) map (inside .1) k;
+  outside = λ i h lo hi.
+      let t = all-at (λ i. not (inPool (machine64 z) (getD map i 0))) (length map) (halves .1) i h in
+      let f : inPool (machine64 z) (getD map i 0) ≡ false = not-true _ t in
+      let g : inPool (machine64 z) (getD map i 0) ≡ true = simp (le-leb (z .base) (getD map i 0) lo, lt-ltb (getD map i 0) (z .base + tableCount (machine64 z)) hi) in
+      let e : true ≡ false = sym g ∙ f in
+      let n : _≡_ {A = ℕ} 0 1 = cc in omega arith;
+}
+  where
+    halves : ((poolFits (machine64 z) && mapFits (2 ^ 40) map) ≡ true) × (all (length map) (λ i. not (inPool (machine64 z) (getD map i 0))) ≡ true)
+    halves = both (poolFits (machine64 z) && mapFits (2 ^ 40) map) (all (length map) (λ i. not (inPool (machine64 z) (getD map i 0)))) fits
+
+    inside : (poolFits (machine64 z) ≡ true) × (mapFits (2 ^ 40) map ≡ true)
+    inside = both (poolFits (machine64 z)) (mapFits (2 ^ 40) map) (halves .0)
+
+module _ (z : Sizes) (map : List ℕ) (s : State) (e : Event) where
+  -- WHICH OF THE SEVEN KINDS, within its range
+  pub data Kind (out : Result) : Type 0 where
+    store : e .kind ≡ 1 → e .a < length (s .words) → out ≡ afterStore (e .a) (e .b) s → Kind out
+    invlpg : e .kind ≡ 2 → out ≡ afterInvlpg (machine64 z) (e .proc) (e .a) s → Kind out
+    cr3 : e .kind ≡ 3 → e .a < z .frames → out ≡ afterCr3 (machine64 z) (e .proc) (e .a) s → Kind out
+    access : e .kind ≡ 4 → e .b < 6 → out ≡ afterAccess (machine64 z) map (e .proc) (e .a) (e .b) s → Kind out
+    begin : e .kind ≡ 5 → e .b < 8 → out ≡ afterBegin (machine64 z) (e .proc) (e .a) (e .b) s → Kind out
+    extend : e .kind ≡ 6 → e .a < 8 → out ≡ afterExtend (machine64 z) map (e .proc) (e .a) s → Kind out
+    loss : e .kind ≡ 7 → e .a < 8 → out ≡ afterLoss (e .proc) (e .a) s → Kind out
+
+  module _ (ok : callRefusal (machine64 z) map s e ≡ 0) where
+    pub accepted-mapped : Mapped z map
+    accepted-mapped = mapped z map (accepted-exact z map s e ok .guests) (accepted-frames z map s e ok)
+
+    pub accepted-right : Right z map s
+    accepted-right =
+        let x = accepted-exact z map s e ok in
+        record {
+          law = lawful-is (machine64 z) (able64 z (accepted-sized z map s e ok)) map (accepted-mapped .outside) s (record { words = x .words; pairs = x .pairs }) .0 (accepted-lawful z map s e ok);
+          triples = x .triples;
+        }
+
+    taken : after (machine64 z) map s e ≡ moved (machine64 z) map (e .proc) (decode e) s
+    unfolding after
+    taken = simp (eq-eqb (callRefusal (machine64 z) map s e) 0 ok)
+
+    pub kinds : Kind (after (machine64 z) map s e)
+    kinds =
+        go (ℕ-discrete (e .kind) 1) (ℕ-discrete (e .kind) 2) (ℕ-discrete (e .kind) 3) (ℕ-discrete (e .kind) 4) (ℕ-discrete (e .kind) 5) (ℕ-discrete (e .kind) 6)
+      where
+        go : Dec (e .kind ≡ 1) → Dec (e .kind ≡ 2) → Dec (e .kind ≡ 3) → Dec (e .kind ≡ 4) → Dec (e .kind ≡ 5) → Dec (e .kind ≡ 6) → Kind (after (machine64 z) map s e)
+        go (yes q) b c d f g = store q (fitting z map s e ok .stores q) (taken ∙ sym (moved-store (machine64 z) map s e q))
+        go (no a) (yes q) c d f g = invlpg q (taken ∙ sym (moved-invlpg (machine64 z) map s e q))
+        go (no a) (no b) (yes q) d f g = cr3 q (accepted-cr3 z map s e ok (eq-eqb (e .kind) 3 q)) (taken ∙ sym (moved-cr3 (machine64 z) map s e q))
+        go (no a) (no b) (no c) (yes q) f g = access q (fitting z map s e ok .requests q) (taken ∙ sym (moved-access (machine64 z) map s e q))
+        go (no a) (no b) (no c) (no d) (yes q) g = begin q (fitting z map s e ok .begins q) (taken ∙ sym (moved-begin (machine64 z) map s e q))
+        go (no a) (no b) (no c) (no d) (no f) (yes q) = extend q (fitting z map s e ok .extends q) (taken ∙ sym (moved-extend (machine64 z) map s e q))
+        go (no a) (no b) (no c) (no d) (no f) (no g) =
+            let q = seventh (e .kind) (fitting z map s e ok .kind) a b c d f g in
+            loss q (fitting z map s e ok .loses q) (taken ∙ sym (moved-loss (machine64 z) map s e q))

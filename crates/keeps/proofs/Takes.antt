@@ -1,0 +1,170 @@
+-- INVLPG and CR3 write keep the state rules: they take entries away, and with them the page's path.
+use mathlib.Core.Path.{_≡_, refl, sym, ap, ap₂, subst, _∙_}
+use mathlib.Core.Bool.{Bool, true, false, cond, _&&_}
+use mathlib.Core.List.{List}
+use mathlib.Core.Logic.{_⊎_, inl, inr}
+use Prim.Native.Nat.{ℕ, zero, suc, _+_, _-_, _*_, _/_, _%_, _^_, _≤_, _<_}
+use native.Mathlib.Nat.{mod-lt}
+use native.Mathlib.Numerals.{sub-one}
+use native.Mathlib.Decide.{ℕ-discrete, decLt}
+use native.Mathlib.Omega.{arith}
+use lib.Dec.{eqb, ltb}
+use lib.ListN.{length, getD}
+use borrow.Author.Tests.{lt-ltb, le-ltb, ltb-true, ltb-false, eq-eqb, eqb-true}
+use Rattle.paging.specs.declared.Guest.{Guest}
+use Rattle.paging.specs.declared.Origin.{Origin}
+use Rattle.paging.specs.declared.Origin.the-variants.{Of, Nowhere}
+use Rattle.paging.specs.Frame.{guest, host, originOf}
+use Rattle.paging.specs.Layout.{tables64, index, pageOf, frameOf, rightsOf, isPresent}
+use Rattle.paging.specs.Walk.{meet}
+use Rattle.paging.proofs.Indices.{index-small}
+use Rattle.paging.proofs.Rights.{meet-small}
+use Rattle.tables.specs.declared.Sizes.{Sizes}
+use Rattle.tables.specs.declared.Path.{Path}
+use Rattle.tables.specs.State.{Machine, Shadow, onPool, onRecords, State, stateOf, machine64, slotCount, markOf, pageIn, placeIn, rightsIn, withSlot, withRecord, emptied, tableCount, ownerOf, rootOf, entryCount, entryOf, withEntry, named, top, nextEntry, down, descend, pathTo, Sized}
+use Rattle.tables.specs.Steps.{flush, emptySlots, emptyShare}
+use Rattle.tables.proofs.Counts.{by-cases}
+use Rattle.shadow.specs.declared.Answer.the-variants.{Done, NoStep}
+use Rattle.shadow.specs.declared.Place.{Place}
+use Rattle.shadow.specs.declared.Place.the-variants.{At, Off}
+use Rattle.shadow.specs.After.{Result, leafCleared, afterInvlpg, afterCr3, afterBegin, afterExtend, afterLoss, gives, byPlace, placeOf, placeBelow}
+use Rattle.shadow.proofs.Extends.{origin-small}
+use Rattle.lawful.specs.Rules.{slotRight}
+use Rattle.trees.proofs.Trees.{Able, Outside, Exact, ent, lev, shd, Trees, Less, Same}
+use Rattle.trees.proofs.Rules.{Lawful}
+use Rattle.trees.proofs.Leaves.{leaf-entry, leaf-beside, leaf-trees}
+use Rattle.trees.proofs.Roots.{root-owner}
+use Rattle.trees.proofs.Shares.{share-trees, share-less, share-others, share-own, root-trees, root-frame, root-levels, root-frames}
+use Rattle.trees.proofs.Paths.{path-on, path-level, lost-entry, stands, zero-absent}
+use Rattle.trees.proofs.Unique.{leaf-here}
+use Rattle.trees.proofs.Slots.{SameSlot, Empty, Room, with-length, with-other, with-mark, with-page, with-place, with-rights, emptied-here, emptySlots-length, emptySlots-other, emptySlots-here, flush-length, flush-others, flush-here}
+use Rattle.trees.proofs.SlotRules.{Standing, right-partial, right-page, empty-right, complete-right, partial-right}
+use Rattle.keeps.proofs.Right.{Mapped, Right, able, room, Reshaped, reshaped-right, one-slot}
+
+-- what a flush leaves of a slot
+pub flush-leaves : (p v : ℕ) (slots : List ℕ) (k : ℕ) → k < slotCount → Room slots p
+    → Empty (flush p v slots) p k ⊎ (SameSlot slots (flush p v slots) p k × (markOf slots p k ≤ 1))
+flush-leaves p v slots k hk here =
+    by-cases (flush-here p v slots k hk here) (λ x. inr (x .0, by-cases (x .1) (λ e. omega arith) (λ e. omega (arith, e .0)))) (λ x. inl x)
+
+module _ (z : Sizes) (ok : Sized z) (map : List ℕ) (fits : Mapped z map) (p : ℕ) (hp : p < z .processors) (s : State) (r : Right z map s) where
+  abbrev M : Machine
+  M = machine64 z
+
+  abbrev out : Outside M map
+  out = fits .outside
+
+  here : Room (s .slots) p
+  here = room z ok map fits (s .slots) (r .triples) p hp
+
+  -- ---- "INVLPG: if present entries lead to a level 1 table, its entry becomes 0. Then the flush of v"
+
+  -- what an event leaves of p's tables that only takes entries away, the end of page v's path among them
+  pub record Takes (v : ℕ) (s₁ : Shadow) : Type 0 where
+    pub trees : Trees M map s₁
+    pub less : Less M (s .shadow) s₁
+    pub others : (t : ℕ) → t < tableCount M → (ownerOf M t ≡ p → ⊥) → Same M (s .shadow) s₁ t
+    pub gone : isPresent (nextEntry M (s₁ .pool) v (pathTo M (s₁ .pool) p v 1)) ≡ true → ⊥
+
+  module _ (a : ℕ) where
+    abbrev v : ℕ
+    v = pageOf tables64 a
+
+    abbrev t : ℕ
+    t = pathTo M (s .shadow .pool) p v 1 .table
+
+    clears : Takes v (onPool (leafCleared M p v) (s .shadow))
+    unfolding leafCleared
+    clears = go (ltb t (tableCount M)) refl
+      where
+        none : ltb t (tableCount M) ≡ false → Takes v (s .shadow)
+        none q = record {
+          trees = r .law .trees;
+          less = record { entries = λ t h i k. inl refl };
+          others = λ t h ne. record { entries = λ i k. refl; level = refl; frame = refl };
+          gone = zero-absent _ (lost-entry M (able z ok map fits) (s .shadow) (r .law .trees .exact) v (pathTo M (s .shadow .pool) p v 1) (ltb-false t (tableCount M) q));
+        }
+
+        cleared : (on : t < tableCount M) (level : lev M (s .shadow) t ≡ 1) (u i : ℕ) → i < entryCount M → Dec (u ≡ t) → Dec (i ≡ index tables64 v 1)
+            → (ent M (onPool (withEntry M t (index tables64 v 1) 0) (s .shadow)) u i ≡ ent M (s .shadow) u i) ⊎ (ent M (onPool (withEntry M t (index tables64 v 1) 0) (s .shadow)) u i ≡ 0)
+        cleared on level u i hi (yes x) (yes y) = inr (rw (x, y) (leaf-entry M (able z ok map fits) map out (s .shadow) (r .law .trees) t (index tables64 v 1) 0 on level (index-small tables64 v 1) (omega arith) (inl refl)))
+        cleared on level u i hi (no ne) d = inl (leaf-beside M (able z ok map fits) map out (s .shadow) (r .law .trees) t (index tables64 v 1) 0 on level (index-small tables64 v 1) (omega arith) (inl refl) u i hi (λ x y. ne x))
+        cleared on level u i hi (yes x) (no ne) = inl (leaf-beside M (able z ok map fits) map out (s .shadow) (r .law .trees) t (index tables64 v 1) 0 on level (index-small tables64 v 1) (omega arith) (inl refl) u i hi (λ x y. ne y))
+
+        some : ltb t (tableCount M) ≡ true → Takes v (onPool (withEntry M t (index tables64 v 1) 0) (s .shadow))
+        some q =
+            let on : t < tableCount M = ltb-true t (tableCount M) q in
+            let st = stands M (able z ok map fits) map out (s .shadow) (r .law .trees) p hp v 3 (omega arith) on in
+            let level : lev M (s .shadow) t ≡ 1 = st .0 in
+            record {
+              trees = leaf-trees M (able z ok map fits) map out (s .shadow) (r .law .trees) t (index tables64 v 1) 0 on level (index-small tables64 v 1) (omega arith) (inl refl);
+              less = record { entries = λ u hu i hi. cleared on level u i hi (ℕ-discrete u t) (ℕ-discrete i (index tables64 v 1)) };
+              others = λ u hu ne. record { entries = λ i hi. leaf-beside M (able z ok map fits) map out (s .shadow) (r .law .trees) t (index tables64 v 1) 0 on level (index-small tables64 v 1) (omega arith) (inl refl) u i hi (λ e k. ne (ap (ownerOf M) e ∙ st .1)); level = refl; frame = refl };
+              gone = zero-absent _ (leaf-here M (able z ok map fits) map out (s .shadow) (r .law .trees) p hp v t 0 on level refl (omega arith));
+            }
+
+        go : (b : Bool) → ltb t (tableCount M) ≡ b → Takes v (onPool (λ pool. cond b (withEntry M t (index tables64 v 1) 0 pool) pool) (s .shadow))
+        go true q = some q
+        go false q = none q
+
+    pub invlpg-takes : Takes v (afterInvlpg M p a s .state .shadow)
+    unfolding afterInvlpg
+    invlpg-takes = clears
+
+    pub invlpg-reshapes : Reshaped z ok map fits p s (afterInvlpg M p a s .state)
+    unfolding afterInvlpg
+    invlpg-reshapes = record {
+      trees = clears .trees;
+      others = clears .others;
+      beside = λ q ne k hk. flush-others p v (s .slots) q k hk ne;
+      own = λ k hk. flush-leaves p v (s .slots) k hk here;
+      triples = flush-length p v (s .slots);
+    }
+
+  -- ---- "CR3 write: all tables of p freed, root set up anew, all slots of p emptied."
+
+  module _ (f : ℕ) (hf : f < z .frames) where
+    abbrev bare : Shadow
+    bare = emptyShare M p (s .shadow)
+
+    bare-trees : Trees M map bare
+    bare-trees = share-trees M (able z ok map fits) map out (s .shadow) (r .law .trees) p hp
+
+    -- no page of p has a path
+    pub cr3-takes : (v : ℕ) → Takes v (afterCr3 M p f s .state .shadow)
+    unfolding afterCr3
+    cr3-takes v = record {
+      trees = anew;
+      less = record { entries = share-less M (able z ok map fits) map out (s .shadow) (r .law .trees) p hp .entries };
+      others = λ t ht ne.
+          let same = share-others M (able z ok map fits) map out (s .shadow) (r .law .trees) p hp t ht ne in
+          record {
+            entries = same .entries;
+            level = root-levels M (able z ok map fits) map bare bare-trees p hp f hf t ∙ same .level;
+            frame = root-frames M (able z ok map fits) map bare bare-trees p hp f hf t (λ q. ne (ap (ownerOf M) q ∙ root-owner M (able z ok map fits) p)) ∙ same .frame;
+          };
+      gone = go (decLt (pathTo M (bare .pool) p v 1 .table) (tableCount M));
+    }
+      where
+        anew : Trees M map (onRecords (withRecord (rootOf M p) 4 (guest f)) bare)
+        anew = root-trees M (able z ok map fits) map bare bare-trees p hp f hf
+
+        go : Dec (pathTo M (bare .pool) p v 1 .table < tableCount M) → isPresent (nextEntry M (bare .pool) v (pathTo M (bare .pool) p v 1)) ≡ true → ⊥
+        go (yes on) =
+            zero-absent _ (share-own M (able z ok map fits) map out (s .shadow) (r .law .trees) p hp (pathTo M (bare .pool) p v 1 .table) on
+            (stands M (able z ok map fits) map out bare bare-trees p hp v 3 (omega arith) on .1) _ (index-small tables64 v (pathTo M (bare .pool) p v 1 .level)))
+        go (no off) = zero-absent _ (lost-entry M (able z ok map fits) bare (bare-trees .exact) v (pathTo M (bare .pool) p v 1) (omega arith))
+
+    pub cr3-reshapes : Reshaped z ok map fits p s (afterCr3 M p f s .state)
+    unfolding afterCr3
+    cr3-reshapes = record {
+      trees = cr3-takes 0 .trees;
+      others = cr3-takes 0 .others;
+      beside = λ q ne k hk. emptySlots-other p (s .slots) q k hk ne;
+      own = λ k hk. inl (emptySlots-here p (s .slots) k hk here);
+      triples = emptySlots-length p (s .slots);
+    }
+
+    pub cr3-root : shd M (afterCr3 M p f s .state .shadow) (rootOf M p) ≡ f
+    unfolding afterCr3
+    cr3-root = root-frame M (able z ok map fits) map bare bare-trees p hp f hf
