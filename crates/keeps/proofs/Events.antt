@@ -11,13 +11,14 @@ use borrow.Author.Tests.{eq-eqb, le-leb, lt-ltb, not-true}
 use Rattle.paging.specs.Frame.{mapFits}
 use Rattle.paging.specs.Numbers.{all}
 use Rattle.paging.proofs.Numbers.{all-at}
+use Rattle.paging.proofs.Tests.{both}
 use Rattle.rules.specs.declared.Event.{Event}
 use Rattle.rules.specs.History.{isCr3Write}
 use Rattle.rules.proofs.Ranges.{cr3-within}
 use Rattle.tables.specs.declared.Sizes.{Sizes}
 use Rattle.tables.specs.State.{Machine, State, machine64, tableCount, Sized}
 use Rattle.shadow.specs.After.{Result, asSetup, poolFits, inPool, framesFit, callRefusal, after, decode, moved, afterStore, afterInvlpg, afterCr3, afterAccess, afterBegin, afterExtend, afterLoss}
-use Rattle.shadow.proofs.Sizing.{both, hosts-below}
+use Rattle.shadow.proofs.Sizing.{hosts-below}
 use Rattle.shadow.proofs.Accepted.{accepted-ranged, accepted-exact, accepted-words, accepted-frames, accepted-sized, accepted-map, accepted-lawful, accepted-own, accepted-cr3, fitting}
 use Rattle.shadow.proofs.Moves.{seventh, moved-store, moved-invlpg, moved-cr3, moved-access, moved-begin, moved-extend, moved-loss}
 use Rattle.trees.proofs.Trees.{Outside}

@@ -1,9 +1,9 @@
 -- What is asked of a record, by whether it is a root's and by its level.
 use mathlib.Core.Path.{_≡_, refl, sym, ap, _∙_}
-use mathlib.Core.Bool.{Bool, true, false, Bool·beq, not, _&&_, _||_}
+use mathlib.Core.Bool.{Bool, true, false, Bool·beq, not, _&&_, _||_, and-false}
 use mathlib.Core.List.{List}
 use mathlib.Core.Logic.{⊎-elim}
-use Prim.Native.Nat.{ℕ, zero, suc, _+_, _-_, _<_, _≤_}
+use Prim.Native.Nat.{ℕ, _+_, _-_, _<_, _≤_}
 use native.Mathlib.Nat.{eq-or-lt-of-le}
 use native.Mathlib.Omega.{arith}
 use lib.Dec.{eqb, ltb, leb}
@@ -11,10 +11,6 @@ use borrow.Author.Tests.{eq-eqb, ne-eqb, lt-ltb, le-ltb, le-leb, lt-leb, eqb-tru
 use Rattle.tables.specs.declared.Sizes.{Sizes}
 use Rattle.tables.specs.State.{machine64, levelOf, shadows}
 use Rattle.lawful.specs.Rules.{isRoot, recordRight}
-
-pub and-false : (a : Bool) → (a && false) ≡ false
-and-false true = refl
-and-false false = refl
 
 module _ (z : Sizes) (records : List ℕ) (names t : ℕ) where
   abbrev level : ℕ
@@ -65,7 +61,3 @@ module _ (z : Sizes) (records : List ℕ) (names t : ℕ) where
               → b ≡ (leb level 4 && (not (eqb level 0) || eqb frame 0) && Bool·beq (isRoot (machine64 z) t) (eqb level 4) && (isRoot (machine64 z) t || eqb level 0 || eqb names 1) && ltb frame (z .frames))
           go true e = simp (other, e, le-leb level 4 (omega arith), ne-eqb level 0 (λ q. omega arith), ne-eqb level 4 (λ q. omega arith), lt-ltb frame (z .frames) inside)
           go false e = simp (other, e, le-leb level 4 (omega arith), ne-eqb level 0 (λ q. omega arith), ne-eqb level 4 (λ q. omega arith))
-
-pub positive : (n : ℕ) → (n ≡ 0 → ⊥) → 0 < n
-positive zero h = absurd (h refl)
-positive (suc n) h = omega arith

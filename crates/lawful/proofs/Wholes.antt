@@ -1,5 +1,5 @@
 -- Whole tables and entries, by the tests on the way; the loop's invariant is that the entries below i are whole.
-use mathlib.Core.Path.{_≡_, refl, sym, ap, _∙_}
+use mathlib.Core.Path.{_≡_, sym, ap, _∙_}
 use mathlib.Core.Bool.{Bool, true, false, cond, _&&_, _||_}
 use mathlib.Core.List.{List}
 use Prim.Native.Nat.{ℕ, zero, suc, _-_, _+_, _<_, _≤_}
@@ -13,12 +13,6 @@ use Rattle.paging.proofs.Numbers.{all-none, all-more, all-fails}
 use Rattle.tables.specs.declared.Sizes.{Sizes}
 use Rattle.tables.specs.State.{machine64, tableCount, entryOf, named}
 use Rattle.lawful.specs.Rules.{isLeaf, entryBy, tableWhole, entryWhole}
-
--- what is neither 0 nor 1
-pub above-one : (n : ℕ) → 0 < n → (n ≡ 1 → ⊥) → 1 < n
-above-one zero h ne = absurd (omega arith)
-above-one (suc zero) h ne = absurd (ne refl)
-above-one (suc (suc n)) h ne = omega arith
 
 pub record Checked (z : Sizes) (map pool : List ℕ) (t level i : ℕ) : Type 0 where
   pub some : 0 < level

@@ -5,21 +5,21 @@ use mathlib.Core.Bool.{Bool, true, false, cond, not, _&&_}
 use mathlib.Core.List.{List, [], _∷_}
 use Prim.Native.Nat.{ℕ, _+_, _*_, _/_, _%_, _^_, _≤_, _<_}
 use native.Mathlib.Omega.{arith}
-use lib.Dec.{T, eqb, ltb, leb}
+use lib.Dec.{eqb, ltb, leb}
 use lib.ListN.{length, getD}
 use borrow.Author.Tests.{leb-true, leb-false, ltb-true, ltb-false, eqb-true, not-false}
 use Rattle.paging.specs.Numbers.{isBetween, tab}
-use Rattle.paging.specs.Frame.{mapFits}
+use Rattle.paging.specs.Frame.{mapFits, cr3sFit}
 use Rattle.paging.specs.Layout.{tables64, frameWords}
-use Rattle.paging.proofs.Tests.{and-l, and-r, T-true, true-T}
-use Rattle.paging.proofs.Numbers.{all-at, tab-length, tab-at}
+use Rattle.paging.proofs.Tests.{both}
+use Rattle.paging.proofs.Numbers.{all-at, tab-length, tab-at, between}
 use Rattle.rules.specs.declared.Event.{Event}
 use Rattle.rules.specs.Refusal.{Test, test, refusal}
 use Rattle.rules.specs.History.{Setup, Fit, eventAt, eventRefusal, eventTests}
 use Rattle.rules.specs.Outcome.{questionRefusal}
 use Rattle.rules.proofs.Ranges.{Clear, clear, event-clear, cr3-within}
 use Rattle.marks.specs.Work.{workBytes, Room}
-use Rattle.listing.specs.Call.{Asked, Lent, setupOf, sizesFit, lengthsFit, cr3sFit, orElse, firstRefusal, listRefusal}
+use Rattle.listing.specs.Call.{Asked, Lent, setupOf, sizesFit, lengthsFit, orElse, firstRefusal, listRefusal}
 use Rattle.rules.specs.Numbers.{eventOf, eventsOf}
 use Rattle.listing.specs.Replay.{Reach}
 use Rattle.listing.specs.Answer.{Ready}
@@ -36,19 +36,19 @@ pub record Sized (map cr3s events words work outcomes : ℕ) : Type 0 where
 sized : (m p e w k o : ℕ) → sizesFit m p e w k o ≡ true → Sized m p e w k o
 unfolding sizesFit
 sized m p e w k o h =
-    let t = true-T _ h in
-    let t₁ = and-r (isBetween 1 256 m) _ t in
-    let t₂ = and-r (isBetween 1 4 p) _ t₁ in
-    let t₃ = and-r (eqb (e % 4) 0) _ t₂ in
-    let t₄ = and-r (leb (e / 4) 4096) _ t₃ in
-    let t₅ = and-r (eqb w (frameWords * m)) _ t₄ in
-    let t₀ = and-l (isBetween 1 256 m) _ t in
+    let m₁ = both (isBetween 1 256 m) _ h in
+    let p₁ = both (isBetween 1 4 p) _ (m₁ .1) in
+    let e₁ = both (eqb (e % 4) 0) _ (p₁ .1) in
+    let e₂ = both (leb (e / 4) 4096) _ (e₁ .1) in
+    let w₁ = both (eqb w (frameWords * m)) _ (e₂ .1) in
+    let k₁ = both (leb (workBytes m) k) _ (w₁ .1) in
+    let range = between 1 256 m (m₁ .0) in
     record {
-      some = leb-true 1 m (T-true _ (and-l (leb 1 m) _ t₀));
-      few = leb-true m 256 (T-true _ (and-r (leb 1 m) _ t₀));
-      whole = eqb-true w (frameWords * m) (T-true _ (and-l (eqb w (frameWords * m)) _ t₄));
-      bytes = leb-true (workBytes m) k (T-true _ (and-l (leb (workBytes m) k) _ t₅));
-      pairs = leb-true (2 * (m + 3)) o (T-true _ (and-r (leb (workBytes m) k) _ t₅));
+      some = range .0;
+      few = range .1;
+      whole = eqb-true w (frameWords * m) (w₁ .0);
+      bytes = leb-true (workBytes m) k (k₁ .0);
+      pairs = leb-true (2 * (m + 3)) o (k₁ .1);
     }
 
 module _ (q : Asked) (b : Lent) where

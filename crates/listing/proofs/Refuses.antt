@@ -8,11 +8,11 @@ use native.Mathlib.Omega.{arith}
 use lib.Dec.{eqb}
 use lib.ListN.{length}
 use borrow.Author.Tests.{eq-eqb, ne-eqb, eqb-true, eqb-false}
-use Rattle.paging.specs.Frame.{mapFits}
+use Rattle.paging.specs.Frame.{mapFits, cr3sFit}
 use Rattle.rules.specs.Refusal.{refusal}
 use Rattle.rules.specs.History.{eventRefusal}
 use Rattle.rules.specs.Outcome.{questionRefusal}
-use Rattle.listing.specs.Call.{Asked, Lent, setupOf, lengthsFit, cr3sFit, orElse, firstRefusal, listRefusal}
+use Rattle.listing.specs.Call.{Asked, Lent, setupOf, lengthsFit, orElse, firstRefusal, listRefusal}
 use Rattle.rules.specs.Numbers.{eventOf}
 
 pub or-first : (n m : ℕ) → (n ≡ 0 → ⊥) → orElse n m ≡ n

@@ -21,7 +21,7 @@ use Rattle.rules.specs.declared.Event.{Event}
 use Rattle.rules.specs.History.{Setup, setup64, Fit, eventAt, wordsAt, cr3At, isStore, isInvlpg, isCr3Write, isBy}
 use Rattle.rules.specs.View.{View, viewOf, endsPartialOf, endsCompleteOf}
 use Rattle.rules.proofs.Lawful.{lawful, rooted}
-use Rattle.rules.proofs.Steps.{ends, byLevel}
+use Rattle.rules.proofs.Steps.{ends, byLevel, never}
 use Rattle.marks.specs.Work.{cell, workBytes, HasByte}
 use Rattle.marks.specs.Follow.{cleared, stepIn, rereadWord, restarted}
 use Rattle.marks.proofs.Cells.{cell-below, complete-first}
@@ -33,10 +33,6 @@ use Rattle.listing.specs.Replay.{Replay, replayOf, Reach, forgets, appli
 use Rattle.listing.proofs.Applies.{forgets-all, forgets-partial, applied-store, applied-other, applied-invlpg, applied-cr3, applied-none, applied-in}
 
 -- ---- which walks an event ends
-
-never : (a c : Bool) (l : ℕ) → T (not a) → T (not c) → T (not (byLevel a c l))
-never a c zero h k = k
-never a c (suc l) h k = h
 
 always : (a c : Bool) (l : ℕ) → a ≡ true → c ≡ true → T (not (byLevel a c l)) → ⊥
 always a c zero h k t = rw k at t

@@ -3,10 +3,10 @@ use mathlib.Core.Path.{_≡_}
 use mathlib.Core.Bool.{Bool, cond, not, _&&_}
 use mathlib.Core.List.{List, [], _∷_, _++_}
 use Prim.Native.Nat.{ℕ, zero, suc, _+_, _*_, _/_, _%_, _^_}
-use lib.Dec.{eqb, ltb, leb}
-use lib.ListN.{length, getD, drop}
-use Rattle.paging.specs.Numbers.{all, isBetween}
-use Rattle.paging.specs.Frame.{mapFits}
+use lib.Dec.{eqb, leb}
+use lib.ListN.{length, drop}
+use Rattle.paging.specs.Numbers.{isBetween}
+use Rattle.paging.specs.Frame.{mapFits, cr3sFit}
 use Rattle.paging.specs.Layout.{tables64, frameWords, pageOf}
 use Rattle.rules.specs.declared.Question.{Question}
 use Rattle.rules.specs.declared.Outcome.{Outcome}
@@ -58,10 +58,6 @@ sizesFit map cr3s events words work outcomes =
 abbrev pub lengthsFit : Asked → Lent → Bool
 lengthsFit q b =
     sizesFit (length (q .map)) (length (q .cr3s)) (length (q .events)) (length (b .words)) (length (b .work)) (length (b .outcomes))
-
--- "CR3 frame ≥ G"
-unfoldable pub cr3sFit : ℕ → List ℕ → Bool
-cr3sFit G cr3s = all (length cr3s) (λ p. ltb (getD cr3s p 0) G)
 
 -- n unless it is 0, then m
 abbrev pub orElse : ℕ → ℕ → ℕ

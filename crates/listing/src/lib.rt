@@ -9,13 +9,12 @@ use rules::Question;
 ghost use mathlib.Core.Path.{_≡_};
 ghost use Prim.Native.Nat.{ℕ, _+_, _-_, _*_, _/_, _%_, _^_, _≤_, _<_};
 ghost use lib.ListN.{length};
-ghost use Rattle.paging.specs.Numbers.{isBetween};
 ghost use Rattle.paging.specs.Layout.{tables64, frameWords};
 ghost use Rattle.marks.specs.Work.{workBytes, HasByte, Room};
 ghost use Rattle.marks.specs.Follow.{walkOf};
 ghost use mathlib.Core.List.{List};
 ghost use Rattle.rules.specs.History.{setup64, eventRefusal};
-ghost use Rattle.listing.specs.Call.{Lent, asked, lent, sizesFit, cr3sFit, firstRefusal, listRefusal, ListCall};
+ghost use Rattle.listing.specs.Call.{Lent, asked, lent, sizesFit, firstRefusal, listRefusal, ListCall};
 ghost use Rattle.rules.specs.Numbers.{eventOf};
 ghost use Rattle.listing.specs.Answer.{Ready, Answers};
 ghost use Rattle.listing.specs.Replay.{Reach, replayOf, forgets, applied, replayed};
@@ -268,15 +267,6 @@ fn collect(
 
 // ---- refusals
 
-fn is_between(lo: usize, hi: usize, x: usize) -> bool
-    ensures { λ r. ⌜ r ≡ isBetween lo hi x ⌝ }
-{
-    if lo > x {
-        return false;
-    }
-    x <= hi
-}
-
 fn sizes_fit(
     map: usize,
     cr3s: usize,
@@ -287,10 +277,10 @@ fn sizes_fit(
 ) -> bool
     ensures { λ r. ⌜ r ≡ sizesFit map cr3s events words work outcomes ⌝ }
 {
-    if !is_between(1, 256, map) {
+    if !paging::is_between(1, 256, map as u64) {
         return false;
     }
-    if !is_between(1, 4, cr3s) {
+    if !paging::is_between(1, 4, cr3s as u64) {
         return false;
     }
     if events % 4 != 0 {
@@ -306,19 +296,6 @@ fn sizes_fit(
         return false;
     }
     outcomes >= 2 * (map + 3)
-}
-
-fn cr3s_fit(frames: u64, cr3s: &[u64]) -> bool
-    ensures { λ r. ⌜ r ≡ cr3sFit frames (now (cr3s .entry)) ⌝ }
-{
-    let mut p = 0;
-    while p < cr3s.len() {
-        if cr3s[p] >= frames {
-            return false;
-        }
-        p += 1;
-    }
-    true
 }
 
 fn events_refusal(events: &[u64], frames: u64, processors: u64) -> u64
@@ -358,7 +335,7 @@ fn list_refusal(
     }
     let frames = map.len() as u64;
     let processors = cr3s.len() as u64;
-    if !cr3s_fit(frames, cr3s) {
+    if !paging::cr3s_fit(frames, cr3s) {
         return 7;
     }
     let r = events_refusal(events, frames, processors);

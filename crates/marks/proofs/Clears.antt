@@ -13,6 +13,7 @@ use Rattle.paging.specs.declared.Guest.{Guest}
 use Rattle.paging.specs.declared.Walk.{Walk}
 use Rattle.paging.specs.Layout.{tables64}
 use Rattle.paging.specs.Walk.{start}
+use Rattle.paging.proofs.Numbers.{set-zero}
 use Rattle.rules.specs.View.{View}
 use Rattle.rules.proofs.Steps.{Kept, stay, ends}
 use Rattle.marks.specs.Work.{cell, workBytes, HasByte}
@@ -35,13 +36,6 @@ pub cleared-above : (k n j : ℕ) (work : List ℕ) → k + n ≤ j → getD (cl
 unfolding cleared
 cleared-above k zero j work h = refl
 cleared-above k (suc n) j work h = cleared-above (k + 1) n j (set work k 0) (omega arith) ∙ getD-set-other work k j 0 0 (λ e. omega arith)
-
-set-zero : (work : List ℕ) (k : ℕ) → getD (set work k 0) k 0 ≡ 0
-set-zero work k = go (decLt k (length work))
-  where
-    go : Dec (k < length work) → getD (set work k 0) k 0 ≡ 0
-    go (yes h) = getD-set-same work k 0 0 h
-    go (no h) = List·getD-eq-default (set work k 0) 0 {n = k} (omega (arith, length-set work k 0))
 
 cleared-in : (k n j : ℕ) (work : List ℕ) → k ≤ j → j < k + n → getD (cleared k n work) j 0 ≡ 0
 unfolding cleared

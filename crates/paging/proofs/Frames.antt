@@ -1,21 +1,21 @@
 -- Between guest and host: the search for a guest frame says the same of what is left, and finds what the map sent.
 use mathlib.Core.Path.{_≡_, refl, sym, _∙_, ap}
-use mathlib.Core.Bool.{true, cond, not, _&&_}
+use mathlib.Core.Bool.{Bool, true, cond, not, _&&_}
 use mathlib.Core.List.{List, [], _∷_}
 use Prim.Native.Nat.{ℕ, zero, suc, _+_, _≤_, _<_}
 use native.Mathlib.Numerals.{add-one}
 use native.Mathlib.Omega.{arith}
 use native.Mathlib.Decide.{decLt}
 use lib.Dec.{eqb, ltb}
-use lib.ListN.{length, getD, drop, drop-of-length-le}
-use lib.Seq.{drop-cons}
+use lib.ListN.{length, getD, take, drop, drop-of-length-le}
+use lib.Seq.{drop-cons, length-take-le, getD-take}
 use borrow.Author.Tests.{eq-eqb, ne-eqb, eqb-false, not-true}
 use Rattle.paging.specs.declared.Guest.{Guest}
 use Rattle.paging.specs.declared.Host.{Host}
 use Rattle.paging.specs.declared.Origin.the-variants.{Of, Nowhere}
 use Rattle.paging.specs.Frame.{guest, host, hostOf, originFrom, originOf, isNew, mapFits}
-use Rattle.paging.proofs.Tests.{and-r, T-true, true-T}
-use Rattle.paging.proofs.Numbers.{all-at}
+use Rattle.paging.proofs.Tests.{both}
+use Rattle.paging.proofs.Numbers.{all-at, all-same}
 
 module _ (map : List ℕ) (h : Host) where
   pub origin-here : (i : ℕ) → i < length map → getD map i 0 ≡ h .0 → originFrom i (drop i map) h ≡ Of (guest i)
@@ -34,21 +34,31 @@ module _ (map : List ℕ) (h : Host) where
 abbrev pub Distinct : List ℕ → Type 0
 Distinct map = (i j : ℕ) → i < length map → j < length map → getD map i 0 ≡ getD map j 0 → i ≡ j
 
-differs : (map : List ℕ) (i j : ℕ) → isNew map i ≡ true → j < i → getD map j 0 ≡ getD map i 0 → ⊥
-differs map i j new lt = eqb-false _ _ (not-true _ (all-at (λ j. not (eqb (getD map j 0) (getD map i 0))) i new j lt))
+-- frames of which none has its like before it
+pub distinct : (map : List ℕ) → ((i j : ℕ) → i < j → j < length map → getD map i 0 ≡ getD map j 0 → ⊥) → Distinct map
+distinct map new i j hi hj e = go (decLt i j) (decLt j i)
+  where
+    go : Dec (i < j) → Dec (j < i) → i ≡ j
+    go (yes p) d = absurd (new i j p hj e)
+    go (no p) (yes q) = absurd (new j i q hi (sym e))
+    go (no p) (no q) = omega arith
+
+pub new-differs : (map : List ℕ) (n f : ℕ) → isNew map n f ≡ true → (i : ℕ) → i < n → getD map i 0 ≡ f → ⊥
+new-differs map n f new i lt = eqb-false _ _ (not-true _ (all-at (λ j. not (eqb (getD map j 0) f)) n new i lt))
+
+-- a map cut after n frames says the same of them
+pub new-cut : (map : List ℕ) (n f : ℕ) → n ≤ length map → isNew (take n map) (length (take n map)) f ≡ isNew map n f
+new-cut map n f h =
+    ap (λ (k : ℕ). isNew (take n map) k f) (length-take-le n map h)
+    ∙ all-same (λ j. not (eqb (getD (take n map) j 0) f)) (λ j. not (eqb (getD map j 0) f)) n (λ j lt. ap (λ (x : ℕ). not (eqb x f)) (getD-take n map j 0 lt))
 
 -- a map that fits has no frame twice
 pub fits-distinct : (limit : ℕ) (map : List ℕ) → mapFits limit map ≡ true → Distinct map
 unfolding mapFits
-fits-distinct limit map h i j hi hj e = go (decLt i j) (decLt j i)
+fits-distinct limit map h = distinct map (λ i j lt hj. new-differs map j (getD map j 0) (new j hj) i lt)
   where
-    new : (k : ℕ) → k < length map → isNew map k ≡ true
-    new k lt = T-true _ (and-r (ltb (getD map k 0) limit) _ (true-T _ (all-at (λ k. ltb (getD map k 0) limit && isNew map k) (length map) h k lt)))
-
-    go : Dec (i < j) → Dec (j < i) → i ≡ j
-    go (yes p) d = absurd (differs map j i (new j hj) p e)
-    go (no p) (yes q) = absurd (differs map i j (new i hi) q (sym e))
-    go (no p) (no q) = omega arith
+    new : (k : ℕ) → k < length map → isNew map k (getD map k 0) ≡ true
+    new k lt = both (ltb (getD map k 0) limit) _ (all-at (λ k. ltb (getD map k 0) limit && isNew map k (getD map k 0)) (length map) h k lt) .1
 
 -- THE SEARCH FINDS THE FRAME THAT THE MAP SENT
 pub origin-host : (map : List ℕ) → Distinct map → (g : Guest) → g .0 < length map → originOf map (hostOf map g) ≡ Of g

@@ -1,15 +1,17 @@
 -- Laws of the bounded tests: one turn of a loop more, a failing number, and what a passed test says of each.
-use mathlib.Core.Path.{_≡_, refl, sym, _∙_}
+use mathlib.Core.Path.{_≡_, refl, sym, ap₂, _∙_}
 use mathlib.Core.Logic.{_⊎_, inl, inr}
-use mathlib.Core.Bool.{Bool, true, false, _&&_, _||_}
+use mathlib.Core.List.{List, [], _∷_}
+use mathlib.Core.Bool.{Bool, true, false, _&&_, _||_, and-false}
 use Prim.Native.Nat.{ℕ, zero, suc, _+_, _≤_, _<_}
 use native.Mathlib.Numerals.{add-one}
 use native.Mathlib.Decide.{ℕ-discrete}
 use native.Mathlib.Omega.{arith}
-use lib.Dec.{T}
-use lib.ListN.{length, getD}
-use Rattle.paging.specs.Numbers.{all, some, each, tab}
-use Rattle.paging.proofs.Tests.{and-l, and-r, or-l, or-r, or-cases, T-true, true-T}
+use lib.Dec.{T, leb}
+use lib.ListN.{length, getD, set}
+use borrow.Author.Tests.{leb-true}
+use Rattle.paging.specs.Numbers.{all, some, each, tab, isBetween}
+use Rattle.paging.proofs.Tests.{and-l, and-r, or-l, or-r, or-cases, T-true, true-T, both}
 
 module _ (f : ℕ → Bool) where
   pub all-none : all 0 f ≡ true
@@ -25,12 +27,8 @@ module _ (f : ℕ → Bool) where
   all-fails zero i h e = absurd (omega arith)
   all-fails (suc n) i h e = go (ℕ-discrete i n) (all-fails n i)
     where
-      last : (b : Bool) → (b && false) ≡ false
-      last true = refl
-      last false = refl
-
       go : Dec (i ≡ n) → (i < n → f i ≡ false → all n f ≡ false) → (all n f && f n) ≡ false
-      go (yes p) ih = rw (rw p at e) (last (all n f))
+      go (yes p) ih = rw (rw p at e) (and-false (all n f))
       go (no p) ih = simp (ih (omega arith) e)
 
   pub all-at : (n : ℕ) → all n f ≡ true → (i : ℕ) → i < n → f i ≡ true
@@ -41,6 +39,11 @@ module _ (f : ℕ → Bool) where
       go : Dec (i ≡ n) → (i < n → f i ≡ true) → f i ≡ true
       go (yes p) ih = rw p (T-true _ (and-r (all n f) _ (true-T _ h)))
       go (no p) ih = ih (omega arith)
+
+  pub all-same : (g : ℕ → Bool) (n : ℕ) → ((i : ℕ) → i < n → f i ≡ g i) → all n f ≡ all n g
+  unfolding all
+  all-same g zero h = refl
+  all-same g (suc n) h = ap₂ _&&_ (all-same g n (λ i lt. h i (omega arith))) (h n (omega arith))
 
   -- ---- some
 
@@ -90,3 +93,12 @@ module _ {A : Type 0} (f : ℕ → A → A) (x : A) where
   pub each-more : (n : ℕ) → each (n + 1) f x ≡ f n (each n f x)
   unfolding each
   each-more n = rw (add-one n)
+
+-- a 0 that is written reads 0, also past the end
+pub set-zero : (xs : List ℕ) (k : ℕ) → getD (set xs k 0) k 0 ≡ 0
+set-zero [] k = refl
+set-zero (x ∷ xs) zero = refl
+set-zero (x ∷ xs) (suc k) = set-zero xs k
+
+pub between : (lo hi x : ℕ) → isBetween lo hi x ≡ true → (lo ≤ x) × (x ≤ hi)
+between lo hi x e = let h = both (leb lo x) (leb x hi) e in (leb-true lo x (h .0), leb-true x hi (h .1))

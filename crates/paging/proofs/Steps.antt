@@ -11,11 +11,8 @@ use Rattle.paging.specs.declared.Step.the-variants.{On, Absent, Beyond, 
 use Rattle.paging.specs.Frame.{guest}
 use Rattle.paging.specs.Layout.{Layout, isPresent, frameOf, rightsOf}
 use Rattle.paging.specs.Walk.{meet, downTo, narrowed, step}
+use Rattle.paging.proofs.Tests.{positive}
 use Rattle.paging.proofs.Rights.{meet-small}
-
-positive : (n : ℕ) → (n ≡ 0 → ⊥) → 0 < n
-positive zero h = absurd (h refl)
-positive (suc n) h = omega arith
 
 module _ (Y : Layout) (G : ℕ) (w : Walk) (e : ℕ) where
   pub step-complete : w .level ≡ 0 → step Y G w e ≡ Complete

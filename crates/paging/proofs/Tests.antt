@@ -1,8 +1,9 @@
--- Tests as facts: what a passed `&&`, `||` and `not` say.
+-- Tests as facts: what a passed `&&`, `||` and `not` say, and a number that failed to be 0 or 1.
 use mathlib.Core.Path.{_≡_, refl}
 use mathlib.Core.Logic.{_↔_, _⊎_, inl, inr}
 use mathlib.Core.Bool.{Bool, true, false, not, _&&_, _||_}
-use Prim.Native.Nat.{ℕ}
+use Prim.Native.Nat.{ℕ, zero, suc, _<_}
+use native.Mathlib.Omega.{arith}
 use lib.Dec.{T, eqb, eqb-refl}
 
 pub and-i : (a b : Bool) → T a → T b → T (a && b)
@@ -43,6 +44,10 @@ true-T b e = rw e tt
 pub false-T : (b : Bool) → b ≡ false → T (not b)
 false-T b e = rw e tt
 
+pub both : (a b : Bool) → (a && b) ≡ true → (a ≡ true) × (b ≡ true)
+both true b e = (refl, e)
+both false b e = absurd (true-T false e)
+
 pub T-or-not : (b : Bool) → T b ⊎ T (not b)
 T-or-not true = inl tt
 T-or-not false = inr tt
@@ -56,3 +61,12 @@ same-test true true e = refl
 same-test false false e = refl
 same-test true false e = absurd (e .0 tt)
 same-test false true e = absurd (e .1 tt)
+
+pub positive : (n : ℕ) → (n ≡ 0 → ⊥) → 0 < n
+positive zero h = absurd (h refl)
+positive (suc n) h = omega arith
+
+pub above-one : (n : ℕ) → (n ≡ 0 → ⊥) → (n ≡ 1 → ⊥) → 1 < n
+above-one zero a b = absurd (a refl)
+above-one (suc zero) a b = absurd (b refl)
+above-one (suc (suc n)) a b = omega arith

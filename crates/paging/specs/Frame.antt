@@ -29,9 +29,14 @@ originFrom k (x ∷ xs) h = cond (eqb x (h .0)) (Of (guest k)) (originFrom (k + 
 abbrev pub originOf : List ℕ → Host → Origin
 originOf map h = originFrom 0 map h
 
--- "a map frame repeats, is 2^40 or more": no frame before place i is the one at i, and it is below the limit
-abbrev pub isNew : List ℕ → ℕ → Bool
-isNew map i = all i (λ j. not (eqb (getD map j 0) (getD map i 0)))
+-- none of the first n frames of a map is f
+abbrev pub isNew : List ℕ → ℕ → ℕ → Bool
+isNew map n f = all n (λ j. not (eqb (getD map j 0) f))
 
+-- "a map frame repeats, is 2^40 or more": the frame at each place is below the limit and new among those before it
 unfoldable pub mapFits : ℕ → List ℕ → Bool
-mapFits limit map = all (length map) (λ i. ltb (getD map i 0) limit && isNew map i)
+mapFits limit map = all (length map) (λ i. ltb (getD map i 0) limit && isNew map i (getD map i 0))
+
+-- "CR3 frame ≥ G": of a start's CR3s, each names a guest frame
+unfoldable pub cr3sFit : ℕ → List ℕ → Bool
+cr3sFit G cr3s = all (length cr3s) (λ p. ltb (getD cr3s p 0) G)

@@ -3,7 +3,8 @@
 ghost use mathlib.Core.Path.{_≡_};
 ghost use Prim.Native.Nat.{ℕ, _<_, _≤_, _^_};
 ghost use lib.ListN.{length};
-ghost use Rattle.paging.specs.Frame.{hostOf, originOf, isNew, mapFits};
+ghost use Rattle.paging.specs.Numbers.{isBetween};
+ghost use Rattle.paging.specs.Frame.{hostOf, originOf, isNew, mapFits, cr3sFit};
 ghost use Rattle.paging.specs.Layout.{tables64, pageOf, index, frameOf, rightsOf, compose, isPresent, mark, bit};
 ghost use Rattle.paging.specs.Walk.{start, narrowed, downTo, step};
 ghost use Rattle.paging.specs.Request.{requestOf, enough};
@@ -145,13 +146,23 @@ pub fn origin_of(map: &[u64], h: Host) -> Origin
     Origin::Nowhere
 }
 
-fn is_new(map: &[u64], i: usize) -> bool
-    requires { ⌜ i < length (now map) ⌝ }
-    ensures { λ r. ⌜ r ≡ isNew (now (map .entry)) i ⌝ }
+// ---- numbers that fit
+
+pub fn is_between(lo: u64, hi: u64, x: u64) -> bool
+    ensures { λ r. ⌜ r ≡ isBetween lo hi x ⌝ }
 {
-    let f = map[i];
+    if lo > x {
+        return false;
+    }
+    x <= hi
+}
+
+pub fn is_new(map: &[u64], n: usize, f: u64) -> bool
+    requires { ⌜ n ≤ length (now map) ⌝ }
+    ensures { λ r. ⌜ r ≡ isNew (now (map .entry)) n f ⌝ }
+{
     let mut j = 0;
-    while j < i {
+    while j < n {
         if map[j] == f {
             return false;
         }
@@ -166,13 +177,27 @@ pub fn map_fits(map: &[u64]) -> bool
 {
     let mut i = 0;
     while i < map.len() {
-        if map[i] >= 0x100_0000_0000 {
+        let f = map[i];
+        if f >= 0x100_0000_0000 {
             return false;
         }
-        if !is_new(map, i) {
+        if !is_new(map, i, f) {
             return false;
         }
         i += 1;
+    }
+    true
+}
+
+pub fn cr3s_fit(frames: u64, cr3s: &[u64]) -> bool
+    ensures { λ r. ⌜ r ≡ cr3sFit frames (now (cr3s .entry)) ⌝ }
+{
+    let mut p = 0;
+    while p < cr3s.len() {
+        if cr3s[p] >= frames {
+            return false;
+        }
+        p += 1;
     }
     true
 }

@@ -14,7 +14,7 @@ use Rattle.puzzle.specs.declared.ReadResult.the-variants.{Accepted, Refu
 use Rattle.sections.specs.Sections.{Got, got, refused, Puzzle, puzzleOf, wordRange}
 use Rattle.puzzle.specs.Buffers.{Buffers, buffers, after, withPairs, wordsOf, laid, verdictOf, answer}
 use Rattle.puzzle.specs.Parts.{WordsBelow, fronts, Whole, accepts}
-use Rattle.sections.proofs.Tests.{both-first}
+use Rattle.paging.proofs.Tests.{both}
 use Rattle.sections.proofs.Ranged.{Ranged}
 use Rattle.puzzle.proofs.Accepted.{accepted}
 use Rattle.puzzle.proofs.Fills.{kept-laid, stored-laid, counts-are}
@@ -37,7 +37,7 @@ unfolding wordRange
 word-below G v i l h e =
     let n = length-take-le (i * 2) l h in
     let even : length (take (i * 2) l) % 2 ≡ 0 = omega arith in
-    ltb-true v (512 * G) (both-first (ltb v (512 * G)) _ (simp (eq-eqb (length (take (i * 2) l) % 2) 0 even) at e))
+    ltb-true v (512 * G) (both (ltb v (512 * G)) _ (simp (eq-eqb (length (take (i * 2) l) % 2) 0 even) at e) .0)
 
 pub words-below : {G P : ℕ} {l : List ℕ} → Ranged Words G P l → WordsBelow (512 * G) l
 words-below {G} {P} {l} r = λ i h. word-below G (getD l (i * 2) 0) i l (omega arith) (r .each (i * 2) h)

@@ -5,14 +5,13 @@ use Prim.Native.Nat.{ℕ, suc, _+_, _*_, _/_, _≤_, _<_}
 use native.Mathlib.Numerals.{add-one}
 use native.Mathlib.Omega.{arith}
 use lib.ListN.{length, take, drop, getD, set, replicate, length-set, length-replicate, take-append-drop, replicate-append-replicate, drop-of-length-le}
-use lib.Seq.{take-suc-set, length-take-le, set-append-left}
+use lib.Seq.{drop-cons, getD-take, take-suc-set, length-take-le, set-append-left}
 use Rattle.puzzle.specs.declared.ReadResult.{ReadResult}
 use Rattle.puzzle.specs.declared.ReadResult.the-variants.{Accepted, Refused}
 use Rattle.sections.specs.Sections.{Puzzle, puzzleOf}
 use Rattle.sections.specs.Parts.{Kept}
 use Rattle.puzzle.specs.Buffers.{withPairs, laid, countsOf, verdictOf}
 use Rattle.puzzle.specs.Parts.{WordsBelow, fronts, Whole, SectionsAre}
-use Rattle.sections.proofs.Has.{left}
 
 -- ---- the front of a list
 
@@ -40,6 +39,11 @@ zeros-all l old n t d =
 
 -- ---- pairs of word and value
 
+left : (l : List ℕ) (n i : ℕ) → n ≤ length l → i < n → drop i (take n l) ≡ getD l i 0 ∷ drop (i + 1) (take n l)
+left l n i h k =
+    let m = length-take-le n l h in
+    drop-cons (take n l) i 0 (omega arith) ∙ ap₂ (λ (x j : ℕ). x ∷ drop j (take n l)) (getD-take n l i 0 k) (sym (add-one i))
+
 module _ (l : List ℕ) (n i : ℕ) (h : n * 2 ≤ length l) where
   pub pair-more : (words : List ℕ) → i < n
       → withPairs (drop ((i + 1) * 2) (take (n * 2) l)) (set words (getD l (i * 2) 0) (getD l (i * 2 + 1) 0)) ≡ withPairs (drop (i * 2) (take (n * 2) l)) words
@@ -47,8 +51,8 @@ module _ (l : List ℕ) (n i : ℕ) (h : n * 2 ≤ length l) where
   pair-more words k =
       let e : i * 2 + 1 + 1 ≡ (i + 1) * 2 = omega arith in
       let d : drop (i * 2) (take (n * 2) l) ≡ getD l (i * 2) 0 ∷ getD l (i * 2 + 1) 0 ∷ drop ((i + 1) * 2) (take (n * 2) l) =
-      left l (n * 2) (i * 2) 0 h (omega arith)
-      ∙ ap (λ (m : List ℕ). getD l (i * 2) 0 ∷ m) (left l (n * 2) (i * 2 + 1) 0 h (omega arith) ∙ ap (λ (j : ℕ). getD l (i * 2 + 1) 0 ∷ drop j (take (n * 2) l)) e) in
+      left l (n * 2) (i * 2) h (omega arith)
+      ∙ ap (λ (m : List ℕ). getD l (i * 2) 0 ∷ m) (left l (n * 2) (i * 2 + 1) h (omega arith) ∙ ap (λ (j : ℕ). getD l (i * 2 + 1) 0 ∷ drop j (take (n * 2) l)) e) in
       sym (ap (λ (m : List ℕ). withPairs m words) d)
 
   pub pair-end : (words : List ℕ) → n ≤ i → words ≡ withPairs (drop (i * 2) (take (n * 2) l)) words

@@ -1,57 +1,42 @@
 -- Numbers in range are what the rules ask for: map frames, CR3s, events and questions.
 use mathlib.Core.Path.{_≡_, refl, sym, ap, _∙_}
-use mathlib.Core.Bool.{Bool, true, false, cond, not, _&&_, _||_, or-false, false≢true}
+use mathlib.Core.Bool.{Bool, true, false, cond, not, _&&_, _||_, or-false}
 use mathlib.Core.List.{List, [], _∷_}
 use Prim.Native.Nat.{ℕ, zero, suc, _+_, _-_, _*_, _%_, _^_, _≤_, _<_}
-use native.Mathlib.Decide.{decLt}
 use native.Mathlib.Omega.{arith}
 use lib.Dec.{eqb, ltb, leb}
 use lib.ListN.{length, take, getD}
 use lib.Seq.{length-take-le, getD-take}
 use borrow.Author.Tests.{eq-eqb, ne-eqb, lt-ltb, lt-leb, le-leb, le-ltb, ltb-true, ltb-false, leb-true, leb-false, not-true, not-false}
 use Rattle.paging.specs.Layout.{tables64}
-use Rattle.paging.proofs.Frames.{Distinct}
+use Rattle.paging.specs.Numbers.{isBetween}
+use Rattle.paging.proofs.Tests.{both}
+use Rattle.paging.proofs.Numbers.{between}
+use Rattle.paging.proofs.Frames.{Distinct, distinct, new-differs, new-cut}
 use Rattle.rules.specs.Refusal.{refusal}
 use Rattle.rules.specs.History.{Setup, eventRefusal, setup64}
 use Rattle.rules.specs.Outcome.{questionRefusal}
 use Rattle.sections.specs.declared.Section.the-variants.{Map, Cr3s, Events, Questions}
-use Rattle.sections.specs.Sections.{has, mapRange, aRange, bRange, eventRange, questionRange}
-use Rattle.sections.proofs.Tests.{both-first, both-second}
+use Rattle.sections.specs.Sections.{mapRange, aRange, bRange, eventRange, questionRange}
 use Rattle.sections.proofs.Ranged.{Ranged}
 use Rattle.rules.specs.Numbers.{eventOf, questionOf}
 use Rattle.puzzle.specs.Setup.{InEvent}
 
 -- ---- map frames
 
-has-at : (l : List ℕ) (i v : ℕ) → i < length l → getD l i 0 ≡ v → has v l ≡ true
-unfolding has
-has-at [] i v h e = absurd (omega arith)
-has-at (x ∷ xs) zero v h e = simp (eq-eqb x v e)
-has-at (x ∷ xs) (suc i) v h e = or-true (eqb x v) (has-at xs i v (omega arith) e)
-  where
-    or-true : (b : Bool) {c : Bool} → c ≡ true → (b || c) ≡ true
-    or-true true t = refl
-    or-true false t = t
-
 module _ {l : List ℕ} (r : Ranged Map 0 0 l) where
   pub frame-below : (i : ℕ) → i < length l → getD l i 0 < 2 ^ 20
   unfolding mapRange
-  frame-below i h = ltb-true (getD l i 0) (2 ^ 20) (both-first (ltb (getD l i 0) (2 ^ 20)) _ (r .each i h))
-
-  new : (i j : ℕ) → i < j → j < length l → getD l i 0 ≡ getD l j 0 → ⊥
-  unfolding mapRange
-  new i j h k e =
-      let none = not-true _ (both-second (ltb (getD l j 0) (2 ^ 20)) (not (has (getD l j 0) (take j l))) (r .each j k)) in
-      let n = length-take-le j l (omega arith) in
-      false≢true (sym none ∙ has-at (take j l) i (getD l j 0) (omega arith) (getD-take j l i 0 h ∙ e))
+  frame-below i h = ltb-true (getD l i 0) (2 ^ 20) (both (ltb (getD l i 0) (2 ^ 20)) _ (r .each i h) .0)
 
   pub frames-differ : Distinct l
-  frames-differ i j hi hj e = go (decLt i j) (decLt j i)
+  unfolding mapRange
+  frames-differ = distinct l new
     where
-      go : Dec (i < j) → Dec (j < i) → i ≡ j
-      go (yes p) d = absurd (new i j p hj e)
-      go (no p) (yes q) = absurd (new j i q hi (sym e))
-      go (no p) (no q) = omega arith
+      new : (i j : ℕ) → i < j → j < length l → getD l i 0 ≡ getD l j 0 → ⊥
+      new i j h k =
+          let e = both (ltb (getD l j 0) (2 ^ 20)) _ (r .each j k) .1 in
+          new-differs l j (getD l j 0) (sym (new-cut l j (getD l j 0) (omega arith)) ∙ e) i h
 
 pub cr3-below : {G : ℕ} {l : List ℕ} → Ranged Cr3s G 0 l → (i : ℕ) → i < length l → getD l i 0 < G
 cr3-below {G} {l} r i h = ltb-true (getD l i 0) G (r .each i h)
@@ -129,7 +114,7 @@ module _ (G P : ℕ) (before : List ℕ) (v : ℕ) where
   unfolding eventRange
   first-of-four e = simp (eq-eqb (length before % 4) 0 e)
 
-  second-of-four : length before % 4 ≡ 1 → eventRange G P before v ≡ (leb 1 v && leb v 7)
+  second-of-four : length before % 4 ≡ 1 → eventRange G P before v ≡ isBetween 1 7 v
   unfolding eventRange
   second-of-four e = simp e
 
@@ -150,10 +135,11 @@ module _ {G P : ℕ} {l : List ℕ} (r : Ranged Events G P l) (k : ℕ) (h : 4 *
       let n = length-take-le (4 * k) l (omega (arith, whole-event)) in
       ltb-true (getD l (4 * k) 0) P (sym (first-of-four G P (take (4 * k) l) (getD l (4 * k) 0) (omega arith)) ∙ r .each (4 * k) h)
 
-  kind-in : (leb 1 (getD l (4 * k + 1) 0) && leb (getD l (4 * k + 1) 0) 7) ≡ true
+  kind-in : (1 ≤ getD l (4 * k + 1) 0) × (getD l (4 * k + 1) 0 ≤ 7)
   kind-in =
       let n = length-take-le (4 * k + 1) l (omega (arith, whole-event)) in
-      sym (second-of-four G P (take (4 * k + 1) l) (getD l (4 * k + 1) 0) (omega arith)) ∙ r .each (4 * k + 1) (omega (arith, whole-event))
+      between 1 7 (getD l (4 * k + 1) 0)
+      (sym (second-of-four G P (take (4 * k + 1) l) (getD l (4 * k + 1) 0) (omega arith)) ∙ r .each (4 * k + 1) (omega (arith, whole-event)))
 
   a-in : aRange G (getD l (4 * k + 1) 0) (getD l (4 * k + 2) 0) ≡ true
   a-in =
@@ -173,7 +159,7 @@ module _ {G P : ℕ} {l : List ℕ} (r : Ranged Events G P l) (k : ℕ) (h : 4 *
   event-fits words cr3s =
       let kind = getD l (4 * k + 1) 0 in
       event-in G P words cr3s kind (getD l (4 * k) 0) (getD l (4 * k + 2) 0) (getD l (4 * k + 3) 0) processor-in
-      (leb-true 1 kind (both-first (leb 1 kind) (leb kind 7) kind-in)) (leb-true kind 7 (both-second (leb 1 kind) (leb kind 7) kind-in)) a-in b-in
+      (kind-in .0) (kind-in .1) a-in b-in
 
 -- ---- a question, which is tested as an access
 

@@ -24,7 +24,7 @@ use Rattle.rules.specs.View.{View, viewOf}
 use Rattle.rules.specs.Outcome.{Permitted, Right, RightAt}
 use Rattle.rules.proofs.Order.{keep}
 use Rattle.rules.proofs.Lawful.{Lawful, lawful}
-use Rattle.rules.proofs.Steps.{Kept, begin, extend, stay, ends, byLevel, held-is-kept}
+use Rattle.rules.proofs.Steps.{Kept, begin, extend, stay, ends, byLevel, never, held-is-kept}
 
 module _ (short long : View) (φ : ℕ → ℕ) where
   -- event n + 1 of the longer history ends nothing, or it is the next one of the shorter
@@ -154,10 +154,6 @@ module _ (f : Event → Bool) (only : (e : Event) → f e ≡ false → counts e
       rest false false true h = (refl, h)
       rest false true c h = let z : true ≡ false = h in (z, (cc))
       rest true b c h = let z : true ≡ false = h in ((cc), (cc))
-
-  never : (p c : Bool) (l : ℕ) → T (not p) → T (not c) → T (not (byLevel p c l))
-  never p c zero h k = k
-  never p c (suc l) h k = h
 
   idle-load : (a b : Bool) → b ≡ false → (a && b) ≡ false
   idle-load false b h = refl

@@ -32,8 +32,12 @@ as-complete : (p c : Bool) (l : ℕ) → l ≡ 0 → byLevel p c l ≡ c
 as-complete p c zero h = refl
 as-complete p c (suc l) h = absurd (omega arith)
 
+pub never : (p c : Bool) (l : ℕ) → T (not p) → T (not c) → T (not (byLevel p c l))
+never p c zero h k = k
+never p c (suc l) h k = h
+
 module _ (seen : View) where
-  -- does event k + 1 end this walk?
+  -- whether event k + 1 ends this walk
   abbrev pub ends : Walk → ℕ → Bool
   ends w k = byLevel (seen .endsPartial k) (seen .endsComplete k) (w .level)
 

@@ -15,7 +15,7 @@ pub record View : Type 0 where
   pub begins : ℕ → Walk
   -- what a walk does at moment k
   pub steps : ℕ → Walk → Step
-  -- does event k + 1, between the moments k and k + 1, end partial walks? complete ones?
+  -- whether event k + 1, between the moments k and k + 1, ends partial walks, and whether it ends complete ones
   pub endsPartial : ℕ → Bool
   pub endsComplete : ℕ → Bool
 

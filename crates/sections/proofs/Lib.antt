@@ -1,5 +1,3 @@
-pub mod Tests
-pub mod Has
 pub mod Cases
 pub mod Numbers
 pub mod Ranged

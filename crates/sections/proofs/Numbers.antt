@@ -13,11 +13,11 @@ use Rattle.cursor.specs.declared.Cursor.{Cursor}
 use Rattle.cursor.specs.declared.Next.the-variants.{Number, Bad}
 use Rattle.cursor.specs.Text.{Stands, lineAt, pastBlanks, nextAt}
 use Rattle.cursor.proofs.Runs.{next-stands, next-line, bad-line}
+use Rattle.paging.proofs.Numbers.{between}
 use Rattle.sections.specs.declared.Section.{Section}
 use Rattle.sections.specs.declared.Section.the-variants.{Map, Cr3s, Words, Events, Questions}
 use Rattle.sections.specs.Sections.{Got, got, refused, _then_, judged, due, numbers, width, countRange, inRange, section}
 use Rattle.sections.specs.Parts.{capacity, Front}
-use Rattle.sections.proofs.Tests.{both-second}
 
 module _ (fits : ℕ → Bool) (text : List ℕ) (at : ℕ) where
   pub due-bad : {line : ℕ} → Bad line ≡ nextAt text at → due fits text at ≡ refused 10 line
@@ -122,8 +122,8 @@ module _ (k : Section) (G P : ℕ) (text : List ℕ) (at : ℕ) where
 
 -- a count in range has room in its buffer
 pub count-fits : (k : Section) (G n : ℕ) → G ≤ 16 → countRange k G n ≡ true → n * width k ≤ capacity k
-count-fits Map G n h e = omega (arith, leb-true n 16 (both-second (leb 1 n) (leb n 16) e))
-count-fits Cr3s G n h e = omega (arith, leb-true n 4 (both-second (leb 1 n) (leb n 4) e))
+count-fits Map G n h e = omega (arith, between 1 16 n e)
+count-fits Cr3s G n h e = omega (arith, between 1 4 n e)
 count-fits Words G n h e = omega (arith, leb-true n (512 * G) e)
 count-fits Events G n h e = omega (arith, leb-true n 256 e)
-count-fits Questions G n h e = omega (arith, leb-true n 16 (both-second (leb 1 n) (leb n 16) e))
+count-fits Questions G n h e = omega (arith, between 1 16 n e)

@@ -1,5 +1,5 @@
 -- "Puzzle text": from the numbers of a text to a puzzle. Each number is judged in its turn, so "the first place decides".
-use mathlib.Core.Bool.{Bool, true, false, cond, not, _&&_, _||_}
+use mathlib.Core.Bool.{Bool, true, cond, _&&_, _||_}
 use mathlib.Core.List.{List, [], _∷_, _++_}
 use Prim.Native.Nat.{ℕ, zero, suc, _-_, _*_, _%_, _^_}
 use lib.Dec.{eqb, ltb, leb}
@@ -7,6 +7,8 @@ use lib.ListN.{length, getD}
 use Rattle.cursor.specs.declared.Next.{Next}
 use Rattle.cursor.specs.declared.Next.the-variants.{Number, Bad}
 use Rattle.cursor.specs.Text.{lineAt, pastBlanks, nextAt}
+use Rattle.paging.specs.Numbers.{isBetween}
+use Rattle.paging.specs.Frame.{isNew}
 use Rattle.paging.specs.Layout.{tables64, frameWords}
 use Rattle.sections.specs.declared.Section.{Section}
 use Rattle.sections.specs.declared.Section.the-variants.{Map, Cr3s, Words, Events, Questions}
@@ -38,13 +40,9 @@ numbers fits text (suc n) before at = due (fits before) text at then λ v at. nu
 
 -- ---- ranges: "in text also any number out of range, a repeated map frame, a word not above the one before"
 
-unfoldable pub has : ℕ → List ℕ → Bool
-has v [] = false
-has v (x ∷ xs) = eqb x v || has v xs
-
 -- "map frames (below 2^20, distinct)"
 unfoldable pub mapRange : List ℕ → ℕ → Bool
-mapRange before v = ltb v (2 ^ 20) && not (has v before)
+mapRange before v = ltb v (2 ^ 20) && isNew before (length before) v
 
 -- "word and value pairs, words rising"; a value may be any number
 unfoldable pub wordRange : ℕ → List ℕ → ℕ → Bool
@@ -68,7 +66,7 @@ unfoldable pub eventRange : ℕ → ℕ → List ℕ → ℕ → Bool
 eventRange G P before v =
     let i = length before in
     cond (eqb (i % 4) 0) (ltb v P)
-    (cond (eqb (i % 4) 1) (leb 1 v && leb v 7)
+    (cond (eqb (i % 4) 1) (isBetween 1 7 v)
     (cond (eqb (i % 4) 2) (aRange G (getD before (i - 1) 0) v) (bRange (getD before (i - 2) 0) v)))
 
 -- "questions (processor, address, request; 1 to 16)"; number i of the section
@@ -88,11 +86,11 @@ width Questions = 3
 
 -- "The programs take G to 16, … 256 events, 16 questions"; "P 1..4"; "for words, above 512×G"
 abbrev pub countRange : Section → ℕ → ℕ → Bool
-countRange Map G n = leb 1 n && leb n 16
-countRange Cr3s G n = leb 1 n && leb n 4
+countRange Map G n = isBetween 1 16 n
+countRange Cr3s G n = isBetween 1 4 n
 countRange Words G n = leb n (frameWords * G)
 countRange Events G n = leb n 256
-countRange Questions G n = leb 1 n && leb n 16
+countRange Questions G n = isBetween 1 16 n
 
 abbrev pub inRange : Section → ℕ → ℕ → List ℕ → ℕ → Bool
 inRange Map G P before v = mapRange before v

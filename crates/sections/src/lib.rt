@@ -2,12 +2,11 @@
 use cursor::Cursor;
 use cursor::Next;
 ghost use mathlib.Core.Path.{_≡_};
-ghost use mathlib.Core.Bool.{not};
 ghost use mathlib.Core.List.{[]};
 ghost use Prim.Native.Nat.{_*_, _≤_};
 ghost use lib.ListN.{length, take};
 ghost use Rattle.cursor.specs.Text.{Stands};
-ghost use Rattle.sections.specs.Sections.{has, mapRange, wordRange, aRange, bRange, eventRange, questionRange, width, countRange, inRange, numbers, section};
+ghost use Rattle.sections.specs.Sections.{mapRange, wordRange, aRange, bRange, eventRange, questionRange, width, countRange, inRange, numbers, section};
 ghost use Rattle.sections.specs.Parts.{capacity, PartIs};
 
 // The sections of a puzzle text, in their order.
@@ -25,20 +24,6 @@ pub enum Part {
     Refused(u64, u64),
 }
 
-fn is_new(before: &[u64], n: usize, v: u64) -> bool
-    requires { ⌜ n ≤ length (now before) ⌝ }
-    ensures { λ r. ⌜ r ≡ not (has v (take n (now (before .entry)))) ⌝ }
-{
-    let mut i = 0;
-    while i < n {
-        if before[i] == v {
-            return false;
-        }
-        i += 1;
-    }
-    true
-}
-
 fn in_map_range(before: &[u64], i: usize, v: u64) -> bool
     requires { ⌜ i ≤ length (now before) ⌝ }
     ensures { λ r. ⌜ r ≡ mapRange (take i (now (before .entry))) v ⌝ }
@@ -46,7 +31,7 @@ fn in_map_range(before: &[u64], i: usize, v: u64) -> bool
     if v >= 0x10_0000 {
         return false;
     }
-    is_new(before, i, v)
+    paging::is_new(before, i, v)
 }
 
 fn in_word_range(g: u64, before: &[u64], i: usize, v: u64) -> bool
@@ -108,7 +93,7 @@ fn in_event_range(g: u64, p: u64, before: &[u64], i: usize, v: u64) -> bool
         return v < p;
     }
     if part == 1 {
-        return 1 <= v && v <= 7;
+        return paging::is_between(1, 7, v);
     }
     if part == 2 {
         return in_a_range(g, before[i - 1], v);
@@ -159,11 +144,11 @@ fn in_count_range(which: Section, g: u64, n: u64) -> bool
     ensures { λ r. ⌜ r ≡ countRange which g n ⌝ }
 {
     match which {
-        Section::Map => 1 <= n && n <= 16,
-        Section::Cr3s => 1 <= n && n <= 4,
+        Section::Map => paging::is_between(1, 16, n),
+        Section::Cr3s => paging::is_between(1, 4, n),
         Section::Words => n <= 512 * g,
         Section::Events => n <= 256,
-        Section::Questions => 1 <= n && n <= 16,
+        Section::Questions => paging::is_between(1, 16, n),
     }
 }
 

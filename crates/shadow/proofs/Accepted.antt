@@ -11,6 +11,7 @@ use Rattle.paging.specs.Layout.{frameWords, tables64}
 use Rattle.paging.specs.Frame.{mapFits}
 use Rattle.paging.specs.Numbers.{all}
 use Rattle.paging.proofs.Numbers.{all-at}
+use Rattle.paging.proofs.Tests.{both}
 use Rattle.rules.specs.declared.Event.{Event}
 use Rattle.rules.specs.Refusal.{Test, test, refusal}
 use Rattle.rules.specs.History.{isStore, isInvlpg, isCr3Write, isAccess, isBegin, isExtend, isDrop, eventTests, eventRefusal}
@@ -22,7 +23,7 @@ use Rattle.tables.proofs.Names.{few, root-small}
 use Rattle.lawful.specs.Rules.{lawful, tableRight, tableWhole, recordRight, entryRight, isRoot, namesOf, slotRight, isOnPath}
 use Rattle.shadow.specs.After.{asSetup, rangesFit, lengthsFit, poolFits, inPool, framesFit, tooFew, callRefusal}
 use Rattle.shadow.specs.Ready.{Ready, Standing, Fitting}
-use Rattle.shadow.proofs.Sizing.{both, Ranged, ranged, sized, Exact, exact, hosts-below}
+use Rattle.shadow.proofs.Sizing.{Ranged, ranged, sized, Exact, exact, hosts-below}
 
 -- ---- tables of tests
 

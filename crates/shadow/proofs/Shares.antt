@@ -1,18 +1,19 @@
 -- A share that was emptied has three free tables: those after its root.
-use mathlib.Core.Path.{_≡_, refl, sym, ap, ap₂, _∙_}
+use mathlib.Core.Path.{_≡_, sym, ap, ap₂, _∙_}
 use mathlib.Core.Bool.{Bool, true, false, cond, _&&_}
-use mathlib.Core.List.{List, [], _∷_}
+use mathlib.Core.List.{List}
 use mathlib.Core.Logic.{⊎-elim}
 use Prim.Native.Nat.{ℕ, zero, suc, _+_, _*_, _/_, _<_, _≤_}
 use native.Mathlib.Nat.{eq-or-lt-of-le, div-eq-of-lt-le, mul-le-mul-right, add-mul, one-mul}
 use native.Mathlib.Decide.{ℕ-discrete}
 use native.Mathlib.Omega.{arith}
 use lib.Dec.{eqb}
-use lib.ListN.{getD, set}
+use lib.ListN.{set}
 use lib.Seq.{getD-set-other}
 use borrow.Author.Tests.{eq-eqb, ne-eqb}
 use Rattle.paging.specs.Frame.{guest}
 use Rattle.paging.specs.Numbers.{sum, count, each}
+use Rattle.paging.proofs.Numbers.{set-zero}
 use Rattle.tables.specs.declared.Sizes.{Sizes}
 use Rattle.tables.specs.State.{Machine, Shadow, onPool, onRecords, machine64, levelOf, withRecord, tableCount, ownerOf, rootOf, owns, Sized}
 use Rattle.tables.specs.Steps.{zeroed, mayTake, freeCount, emptyOwn, emptyShare}
@@ -36,14 +37,9 @@ count-run f a (suc n) (suc m) h all =
     grown true i = omega arith
     grown false i = omega arith
 
-at-zero : (xs : List ℕ) (k : ℕ) → getD (set xs k 0) k 0 ≡ 0
-at-zero [] k = refl
-at-zero (x ∷ xs) zero = refl
-at-zero (x ∷ xs) (suc k) = at-zero xs k
-
 -- the level that a free record says
 level-free : (records : List ℕ) (t : ℕ) → levelOf (withRecord t 0 (guest 0) records) t ≡ 0
-level-free records t = getD-set-other (set records (2 * t) 0) (2 * t + 1) (2 * t) 0 0 (λ q. omega arith) ∙ at-zero records (2 * t)
+level-free records t = getD-set-other (set records (2 * t) 0) (2 * t + 1) (2 * t) 0 0 (λ q. omega arith) ∙ set-zero records (2 * t)
 
 module _ (M : Machine) (p t : ℕ) (own : owns M p t ≡ true) (below : eqb t (rootOf M p) ≡ false) where
   -- the turn at t frees it, and no other turn gives it a level

@@ -1,29 +1,23 @@
 -- What the tests of sizes and frames say once they are passed.
-use mathlib.Core.Path.{_≡_, refl, sym, ap, _∙_}
-use mathlib.Core.Bool.{Bool, true, false, not, _&&_}
+use mathlib.Core.Path.{_≡_, sym, ap, _∙_}
+use mathlib.Core.Bool.{true, not, _&&_}
 use mathlib.Core.List.{List}
 use mathlib.Core.Logic.{⊎-elim}
 use Prim.Native.Nat.{ℕ, zero, suc, _+_, _*_, _^_, _<_, _≤_}
 use native.Mathlib.Nat.{mul-le-mul}
 use native.Mathlib.Decide.{decLt}
 use native.Mathlib.Omega.{arith}
-use lib.Dec.{eqb, ltb, leb}
+use lib.Dec.{eqb, ltb}
 use lib.ListN.{length, getD, List·getD-eq-default}
 use borrow.Author.Tests.{leb-true, ltb-true, eqb-true}
 use Rattle.paging.specs.Frame.{isNew, mapFits}
 use Rattle.paging.specs.Layout.{frameWords}
-use Rattle.paging.specs.Numbers.{all}
-use Rattle.paging.proofs.Numbers.{all-at}
+use Rattle.paging.specs.Numbers.{all, isBetween}
+use Rattle.paging.proofs.Tests.{both}
+use Rattle.paging.proofs.Numbers.{all-at, between}
 use Rattle.tables.specs.declared.Sizes.{Sizes}
 use Rattle.tables.specs.State.{Shadow, machine64, tableCount, Sized}
-use Rattle.shadow.specs.After.{isBetween, rangesFit, lengthsFit, poolFits, inPool, framesFit}
-
-pub both : (a b : Bool) → a && b ≡ true → (a ≡ true) × (b ≡ true)
-both true b e = (refl, e)
-both false b e = let z : _≡_ {A = ℕ} 0 1 = cc in absurd (omega arith)
-
-between : (lo hi x : ℕ) → isBetween lo hi x ≡ true → (lo ≤ x) × (x ≤ hi)
-between lo hi x e = let h = both (leb lo x) (leb x hi) e in (leb-true lo x (h .0), leb-true x hi (h .1))
+use Rattle.shadow.specs.After.{rangesFit, lengthsFit, poolFits, inPool, framesFit}
 
 pub record Ranged (z : Sizes) : Type 0 where
   pub frames : (1 ≤ z .frames) × (z .frames ≤ 256)
@@ -84,5 +78,5 @@ unfolding mapFits
 hosts-below limit pos map e i = go (decLt i (length map))
   where
     go : Dec (i < length map) → getD map i 0 < limit
-    go (yes h) = ltb-true (getD map i 0) limit (both (ltb (getD map i 0) limit) (isNew map i) (all-at (λ k. ltb (getD map k 0) limit && isNew map k) (length map) e i h) .0)
+    go (yes h) = ltb-true (getD map i 0) limit (both (ltb (getD map i 0) limit) (isNew map i (getD map i 0)) (all-at (λ k. ltb (getD map k 0) limit && isNew map k (getD map k 0)) (length map) e i h) .0)
     go (no h) = omega (arith, List·getD-eq-default map 0 {n = i} (omega (arith, h)))

@@ -8,15 +8,16 @@ use lib.Dec.{eqb}
 use lib.ListN.{length, getD, replicate}
 use borrow.Author.Tests.{eq-eqb, ne-eqb, eqb-true, not-false}
 use Rattle.paging.specs.Layout.{frameWords}
-use Rattle.paging.specs.Frame.{mapFits}
+use Rattle.paging.specs.Frame.{mapFits, cr3sFit}
 use Rattle.paging.specs.Numbers.{all}
+use Rattle.paging.proofs.Tests.{both}
 use Rattle.rules.specs.Refusal.{Test, test, refusal}
 use Rattle.rules.proofs.Ranges.{Clear, clear}
 use Rattle.tables.specs.declared.Sizes.{Sizes}
 use Rattle.tables.specs.State.{Machine, Shadow, shadowOf, State, stateOf, machine64, tableCount, Sized, Room}
 use Rattle.shadow.specs.declared.Answer.the-variants.{Done, Refused}
-use Rattle.shadow.specs.After.{gives, rangesFit, lengthsFit, poolFits, inPool, framesFit, rooted, started, cr3sFit, setupRefusal, afterSetup}
-use Rattle.shadow.proofs.Sizing.{both, Ranged, ranged, sized, Exact, exact}
+use Rattle.shadow.specs.After.{gives, rangesFit, lengthsFit, poolFits, inPool, framesFit, rooted, started, setupRefusal, afterSetup}
+use Rattle.shadow.proofs.Sizing.{Ranged, ranged, sized, Exact, exact}
 use Rattle.shadow.proofs.Accepted.{first-two, neither}
 
 module _ (z : Sizes) (map cr3s : List ℕ) (s : State) where
@@ -26,7 +27,7 @@ module _ (z : Sizes) (map cr3s : List ℕ) (s : State) where
   pub setup-early : {n : ℕ} → n ≡ refusal (test 1 (not sizes) ∷ test 2 (not (framesFit (machine64 z) map)) ∷ []) → (n ≡ 0 → ⊥) → n ≡ setupRefusal (machine64 z) map cr3s s
   unfolding setupRefusal
   setup-early en some =
-      en ∙ first-two (not sizes) (not (framesFit (machine64 z) map)) (test 7 (not (cr3sFit (machine64 z) cr3s)) ∷ []) (λ q. some (en ∙ q))
+      en ∙ first-two (not sizes) (not (framesFit (machine64 z) map)) (test 7 (not (cr3sFit (z .frames) cr3s)) ∷ []) (λ q. some (en ∙ q))
 
   -- the facts behind the first two tests
   module _ (fits : sizes ≡ true) (frames : framesFit (machine64 z) map ≡ true) where
@@ -51,11 +52,11 @@ module _ (z : Sizes) (map cr3s : List ℕ) (s : State) where
     pub setup-shown : (sizes ≡ true) × (framesFit (machine64 z) map ≡ true)
     setup-shown = neither sizes (framesFit (machine64 z) map) (sym none)
 
-    pub setup-seven : cr3sFit (machine64 z) cr3s ≡ false → 7 ≡ setupRefusal (machine64 z) map cr3s s
+    pub setup-seven : cr3sFit (z .frames) cr3s ≡ false → 7 ≡ setupRefusal (machine64 z) map cr3s s
     unfolding setupRefusal refusal
     setup-seven q = simp (setup-shown .0, setup-shown .1, q)
 
-    pub setup-none : cr3sFit (machine64 z) cr3s ≡ true → 0 ≡ setupRefusal (machine64 z) map cr3s s
+    pub setup-none : cr3sFit (z .frames) cr3s ≡ true → 0 ≡ setupRefusal (machine64 z) map cr3s s
     unfolding setupRefusal refusal
     setup-none q = simp (setup-shown .0, setup-shown .1, q)
 
@@ -63,7 +64,7 @@ module _ (z : Sizes) (map cr3s : List ℕ) (s : State) where
     pub accepted-sizes : (sizes ≡ true) × (framesFit (machine64 z) map ≡ true)
     unfolding setupRefusal
     accepted-sizes =
-        let c = clear (test 1 (not sizes) ∷ test 2 (not (framesFit (machine64 z) map)) ∷ test 7 (not (cr3sFit (machine64 z) cr3s)) ∷ []) (omega arith, (omega arith, (omega arith, tt))) ok in
+        let c = clear (test 1 (not sizes) ∷ test 2 (not (framesFit (machine64 z) map)) ∷ test 7 (not (cr3sFit (z .frames) cr3s)) ∷ []) (omega arith, (omega arith, (omega arith, tt))) ok in
         (not-false _ (c .0), not-false _ (c .1 .0))
 
   -- the two ends of a setup

@@ -17,7 +17,7 @@ use Rattle.tables.specs.State.{State, stateOf, machine64}
 use Rattle.lawful.specs.Rules.{lawful}
 use Rattle.shadow.specs.declared.Answer.{Answer}
 use Rattle.shadow.specs.After.{Result, gives, after, afterSetup, afterStore, asSetup, rangesFit, lengthsFit, framesFit, tooFew, callRefusal}
-use Rattle.shadow.proofs.Sizing.{both, Ranged, ranged}
+use Rattle.shadow.proofs.Sizing.{Ranged, ranged}
 
 -- ---- ANY TWO RESULTS THAT A PROMISE ALLOWS ARE EQUAL
 

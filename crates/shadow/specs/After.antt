@@ -9,7 +9,7 @@ use Rattle.paging.specs.declared.Host.{Host}
 use Rattle.paging.specs.declared.Origin.{Origin}
 use Rattle.paging.specs.declared.Origin.the-variants.{Of, Nowhere}
 use Rattle.paging.specs.declared.Request.{Request}
-use Rattle.paging.specs.Frame.{guest, host, hostOf, originOf, mapFits}
+use Rattle.paging.specs.Frame.{guest, host, hostOf, originOf, mapFits, cr3sFit}
 use Rattle.paging.specs.Layout.{Layout, frameWords, bit, get, put, index, pageOf, frameOf, rightsOf, isPresent, markD}
 use Rattle.paging.specs.Walk.{meet}
 use Rattle.paging.specs.Request.{requestOf, enough}
@@ -19,7 +19,7 @@ use Rattle.rules.specs.History.{Setup, isStore, isInvlpg, isCr3Write, isAccess,
 use Rattle.tables.specs.declared.Spot.{Spot}
 use Rattle.tables.specs.declared.Walked.{Walked}
 use Rattle.tables.specs.declared.Walked.the-variants.{Whole, Fault}
-use Rattle.paging.specs.Numbers.{all, each}
+use Rattle.paging.specs.Numbers.{all, each, isBetween}
 use Rattle.tables.specs.State.{Machine, Shadow, shadowOf, onPool, onRecords, State, stateOf, shadows, withRecord, slotCount, markOf, pageIn, placeIn, rightsIn, withSlot, emptied, tableCount, rootOf, entryOf, withEntry, named, nextEntry, pathTo}
 use Rattle.tables.specs.Steps.{servingSlot, flush, emptySlots, walkGuest, emptyShare, freeCount, settle, Settled, build}
 use Rattle.shadow.specs.declared.Answer.{Answer}
@@ -112,9 +112,6 @@ unfoldable pub dirtied : Layout → Request → ℕ → Guest → List ℕ → L
 dirtied Y q page last words =
     let i = index Y page 1 in
     cond (isWrite q) (put Y words (last .0) i (markD (get Y words (last .0) i))) words
-
-abbrev pub isBetween : ℕ → ℕ → ℕ → Bool
-isBetween lo hi x = leb lo x && leb x hi
 
 module _ (M : Machine) where
   -- "if present entries lead to a level 1 table, its entry becomes 0"
@@ -279,15 +276,12 @@ module _ (M : Machine) where
       (shadowOf (replicate (frameWords * tableCount M) 0) (rooted cr3s (replicate (2 * tableCount M) 0)))
       (replicate (24 * M .processors) 0)
 
-  unfoldable pub cr3sFit : List ℕ → Bool
-  cr3sFit cr3s = all (M .processors) (λ p. ltb (getD cr3s p 0) (M .frames))
-
   unfoldable pub setupRefusal : List ℕ → List ℕ → State → ℕ
   setupRefusal map cr3s s =
       refusal
       (test 1 (not (rangesFit && lengthsFit map (s .shadow) (s .slots) && eqb (length cr3s) (M .processors)))
       ∷ test 2 (not (framesFit map))
-      ∷ test 7 (not (cr3sFit cr3s))
+      ∷ test 7 (not (cr3sFit (M .frames) cr3s))
       ∷ [])
 
   unfoldable pub afterSetup : List ℕ → List ℕ → State → Result

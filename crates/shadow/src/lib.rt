@@ -11,7 +11,7 @@ ghost use Rattle.paging.specs.Layout.{tables64, rightsOf, isPresent};
 ghost use Rattle.paging.specs.Request.{enough};
 ghost use Rattle.paging.specs.Walk.{meet};
 ghost use Rattle.tables.specs.State.{Shadow, shadowOf, State, stateOf, machine64, Sized, Room};
-ghost use Rattle.shadow.specs.After.{gives, afterStore, leafCleared, afterInvlpg, afterCr3, afterBegin, placeBelow, afterExtend, afterLoss, valueAt, dirtied, fill, afterMiss, afterAccess, decode, moved, isBetween, rangesFit, lengthsFit, poolFits, inPool, framesFit, callRefusal, after, rooted, cr3sFit, setupRefusal, afterSetup};
+ghost use Rattle.shadow.specs.After.{gives, afterStore, leafCleared, afterInvlpg, afterCr3, afterBegin, placeBelow, afterExtend, afterLoss, valueAt, dirtied, fill, afterMiss, afterAccess, decode, moved, rangesFit, lengthsFit, poolFits, inPool, framesFit, callRefusal, after, rooted, setupRefusal, afterSetup};
 ghost use Rattle.shadow.specs.Ready.{Ready, Standing, Fitting};
 use paging::Guest;
 use paging::Host;
@@ -300,25 +300,16 @@ fn take_step(
 
 // ---- what is tested before
 
-fn is_between(lo: u64, hi: u64, x: u64) -> bool
-    ensures { λ r. ⌜ r ≡ isBetween lo hi x ⌝ }
-{
-    if x < lo {
-        return false;
-    }
-    x <= hi
-}
-
 fn ranges_fit(z: Sizes) -> bool
     ensures { λ r. ⌜ r ≡ rangesFit (machine64 z) ⌝ }
 {
-    if !is_between(1, 256, z.frames) {
+    if !paging::is_between(1, 256, z.frames) {
         return false;
     }
-    if !is_between(1, 4, z.processors) {
+    if !paging::is_between(1, 4, z.processors) {
         return false;
     }
-    is_between(4, 16, z.share)
+    paging::is_between(4, 16, z.share)
 }
 
 fn lengths_fit(map: &[u64], pool: &[u64], records: &[u64], slots: &[u64], z: Sizes) -> bool
@@ -465,20 +456,6 @@ pub fn event(
 
 // ---- setup
 
-fn cr3s_fit(cr3s: &[u64], z: Sizes) -> bool
-    requires { ⌜ (length (now cr3s) ≡ z .processors) × (z .processors ≤ 4) ⌝ }
-    ensures { λ r. ⌜ r ≡ cr3sFit (machine64 z) (now (cr3s .entry)) ⌝ }
-{
-    let mut p = 0;
-    while p < cr3s.len() {
-        if cr3s[p] >= z.frames {
-            return false;
-        }
-        p += 1;
-    }
-    true
-}
-
 fn setup_refusal(
     map: &[u64],
     cr3s: &[u64],
@@ -494,7 +471,7 @@ fn setup_refusal(
     if n != 0 {
         return n;
     }
-    if !cr3s_fit(cr3s, z) {
+    if !paging::cr3s_fit(z.frames, cr3s) {
         return 7;
     }
     0

@@ -7,13 +7,9 @@ use Prim.Native.Nat.{ℕ, zero, suc, _<_}
 use native.Mathlib.Omega.{arith}
 use lib.Dec.{eqb, ltb}
 use borrow.Author.Tests.{eq-eqb, ne-eqb, lt-ltb}
+use Rattle.paging.proofs.Tests.{above-one}
 use Rattle.tables.specs.State.{markOf, pageIn, emptied}
 use Rattle.tables.specs.Steps.{flushed}
-
-above-one : (n : ℕ) → (n ≡ 0 → ⊥) → (n ≡ 1 → ⊥) → 1 < n
-above-one zero a b = absurd (a refl)
-above-one (suc zero) a b = absurd (b refl)
-above-one (suc (suc n)) a b = omega arith
 
 module _ (slots : List ℕ) (p page k : ℕ) where
   by-mark : (m : ℕ) → markOf slots p k ≡ m

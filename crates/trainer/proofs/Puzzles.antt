@@ -5,22 +5,21 @@ use mathlib.Core.List.{List, _++_}
 use Prim.Native.Nat.{ℕ, zero, suc, _+_, _*_, _/_, _%_, _^_, _≤_, _<_}
 use native.Mathlib.Numerals.{add-one}
 use native.Mathlib.Omega.{arith}
-use lib.Dec.{eqb, ltb, leb}
+use lib.Dec.{eqb, ltb}
 use lib.ListN.{length, take, drop, getD, length-append}
 use lib.Seq.{take-append-seam}
 use borrow.Author.Tests.{eq-eqb, ne-eqb, lt-ltb, le-leb, leb-true}
-use Rattle.paging.specs.Numbers.{all, isBetween}
-use Rattle.paging.specs.Frame.{isNew, mapFits}
+use Rattle.paging.specs.Numbers.{all}
+use Rattle.paging.specs.Frame.{isNew, mapFits, cr3sFit}
 use Rattle.paging.specs.Layout.{frameWords}
-use Rattle.paging.proofs.Numbers.{all-none, all-more}
+use Rattle.paging.proofs.Numbers.{between, all-none, all-more}
 use Rattle.rules.specs.declared.Question.{Question}
 use Rattle.rules.specs.History.{eventRefusal}
 use Rattle.rules.specs.Outcome.{questionRefusal}
-use Rattle.listing.specs.Call.{Asked, Lent, asked, lent, setupOf, sizesFit, cr3sFit, firstRefusal, listRefusal}
+use Rattle.listing.specs.Call.{Asked, Lent, asked, lent, setupOf, sizesFit, firstRefusal, listRefusal}
 use Rattle.rules.specs.Numbers.{eventOf, questionOf}
 use Rattle.listing.proofs.Refuses.{or-second, first-none, first-more, list-later}
 use Rattle.sections.specs.Sections.{Got, got, refused, Puzzle, puzzleOf}
-use Rattle.sections.proofs.Tests.{both-first, both-second}
 use Rattle.puzzle.specs.declared.ReadResult.{ReadResult}
 use Rattle.puzzle.specs.declared.ReadResult.the-variants.{Accepted, Refused}
 use Rattle.puzzle.specs.Buffers.{Buffers, buffers, After, after, laid, wordsOf, filled, countsOf, answer, readCall}
@@ -59,14 +58,14 @@ sizes z r =
     let e = r .events .count in
     let q = r .questions .count in
     record {
-      some = omega (arith, r .map .long, leb-true 1 g (both-first (leb 1 g) (leb g 16) (r .map .counted)));
-      frames = omega (arith, r .map .long, leb-true g 16 (both-second (leb 1 g) (leb g 16) (r .map .counted)));
-      one = omega (arith, r .cr3s .long, leb-true 1 p (both-first (leb 1 p) (leb p 4) (r .cr3s .counted)));
-      processors = omega (arith, r .cr3s .long, leb-true p 4 (both-second (leb 1 p) (leb p 4) (r .cr3s .counted)));
+      some = omega (arith, r .map .long, between 1 16 g (r .map .counted) .0);
+      frames = omega (arith, r .map .long, between 1 16 g (r .map .counted) .1);
+      one = omega (arith, r .cr3s .long, between 1 4 p (r .cr3s .counted) .0);
+      processors = omega (arith, r .cr3s .long, between 1 4 p (r .cr3s .counted) .1);
       fours = omega (arith, r .events .long);
       events = omega (arith, r .events .long, leb-true e 256 (r .events .counted));
       threes = omega (arith, r .questions .long);
-      questions = omega (arith, r .questions .long, leb-true q 16 (both-second (leb 1 q) (leb q 16) (r .questions .counted)));
+      questions = omega (arith, r .questions .long, between 1 16 q (r .questions .counted) .1);
     }
 
 sizes-fit : (m p e w k o : ℕ) → 1 ≤ m → m ≤ 16 → 1 ≤ p → p ≤ 4 → e % 4 ≡ 0 → e ≤ 1024 → w ≡ 512 * m → k ≡ 640 → o ≡ 38 → sizesFit m p e w k o ≡ true
@@ -80,12 +79,12 @@ module _ (text : List ℕ) (z : Puzzle) (at : ℕ) (e : puzzleOf text ≡ got z 
 
   map-fits : mapFits (2 ^ 40) (z .map) ≡ true
   unfolding mapFits
-  map-fits = all-each (length (z .map)) (λ i. ltb (getD (z .map) i 0) (2 ^ 40) && isNew (z .map) i) each
+  map-fits = all-each (length (z .map)) (λ i. ltb (getD (z .map) i 0) (2 ^ 40) && isNew (z .map) i (getD (z .map) i 0)) each
     where
       other : (i : ℕ) → i < length (z .map) → (j : ℕ) → j < i → not (eqb (getD (z .map) j 0) (getD (z .map) i 0)) ≡ true
       other i h j k = simp (ne-eqb (getD (z .map) j 0) (getD (z .map) i 0) (λ (d : getD (z .map) j 0 ≡ getD (z .map) i 0). omega (arith, reads.map-distinct text e j i (omega arith) h d)))
 
-      each : (i : ℕ) → i < length (z .map) → (ltb (getD (z .map) i 0) (2 ^ 40) && isNew (z .map) i) ≡ true
+      each : (i : ℕ) → i < length (z .map) → (ltb (getD (z .map) i 0) (2 ^ 40) && isNew (z .map) i (getD (z .map) i 0)) ≡ true
       each i h =
           simp (lt-ltb (getD (z .map) i 0) (2 ^ 40) (omega (arith, reads.map-below text e i h)), all-each i (λ j. not (eqb (getD (z .map) j 0) (getD (z .map) i 0))) (other i h))
 

@@ -7,10 +7,10 @@ use Prim.Native.Nat.{ℕ, _+_, _-_, _≤_, _<_}
 use native.Mathlib.Omega.{arith}
 use lib.Dec.{eqb, ltb, leb}
 use borrow.Author.Tests.{eq-eqb, ne-eqb, lt-ltb, le-leb, lt-leb, eqb-true, eqb-false, ltb-true, leb-true}
+use Rattle.paging.proofs.Tests.{both, positive}
 use Rattle.tables.specs.State.{Machine, Shadow, ownerOf, named}
-use Rattle.lawful.proofs.Records.{positive}
 use Rattle.lawful.specs.Rules.{isLeaf, isLaidOut, namesLower, isRoot, namesOf, recordRight, entryRight}
-use Rattle.trees.proofs.Tests.{false-true, beq-true, beq-same, both, five, or-true}
+use Rattle.trees.proofs.Tests.{false-true, beq-true, beq-same, five, or-true}
 use Rattle.trees.proofs.Trees.{lev, shd, Branch}
 
 -- ---- a record

@@ -1,6 +1,6 @@
 -- Who is named is live, of the same share and one level lower; and every table lies below the root of its share.
 use mathlib.Core.Path.{_≡_, refl, sym, ap, subst, _∙_}
-use mathlib.Core.Bool.{Bool, true, false, cond, _&&_}
+use mathlib.Core.Bool.{Bool, true, false, cond}
 use mathlib.Core.List.{List, [], _∷_}
 use mathlib.Core.Logic.{_⊎_, inl, inr, ⊎-elim}
 use Prim.Native.Nat.{ℕ, zero, suc, _+_, _-_, _*_, _≤_, _<_}
@@ -15,6 +15,7 @@ use Rattle.paging.specs.declared.Origin.{Origin}
 use Rattle.paging.specs.declared.Origin.the-variants.{Of, Nowhere}
 use Rattle.paging.specs.Frame.{guest, host, originFrom, originOf}
 use Rattle.paging.specs.Layout.{bit, frameOf, isPresent}
+use Rattle.paging.proofs.Tests.{both}
 use Rattle.tables.specs.State.{Machine, Shadow, tableCount, ownerOf, entryCount, named}
 use Rattle.tables.proofs.Names.{named-absent, named-low, named-past}
 use Rattle.lawful.specs.Rules.{isOf, isMapped, isMadeWith, isLeaf}
@@ -36,10 +37,6 @@ mapped-from k (x ∷ xs) h e = go (eqb x (h .0)) refl e (mapped-from (k + 1) xs 
 pub mapped : (map : List ℕ) (f : ℕ) → isMapped map f ≡ true → (i : ℕ) × (i < length map) × (getD map i 0 ≡ f)
 mapped map f e = mapped-from 0 map (host f) e
 
-and-true : (a b : Bool) → a && b ≡ true → (a ≡ true) × (b ≡ true)
-and-true true b e = (refl, e)
-and-true false b e = let z : _≡_ {A = ℕ} 0 1 = cc in absurd (omega arith)
-
 module _ (M : Machine) (map : List ℕ) (outside : Outside M map) where
   -- a level 1 entry names no table
   pub leaf-names : (e : ℕ) → isLeaf (M .tables) map e ≡ true → named M e < tableCount M → ⊥
@@ -50,7 +47,7 @@ module _ (M : Machine) (map : List ℕ) (outside : Outside M map) where
       f = frameOf (M .tables) e
 
       there : (i : ℕ) × (i < length map) × (getD map i 0 ≡ f)
-      there = mapped map f (and-true (isMadeWith (M .tables) (bit e 1) e) (isMapped map f) q .1)
+      there = mapped map f (both (isMadeWith (M .tables) (bit e 1) e) (isMapped map f) q .1)
 
       none : tableCount M ≡ named M e → ⊥
       none r = omega arith

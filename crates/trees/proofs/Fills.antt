@@ -16,6 +16,7 @@ use Rattle.paging.specs.Frame.{guest}
 use Rattle.paging.specs.Numbers.{firstFrom}
 use Rattle.paging.specs.Layout.{Layout, bit, index, frameOf, rightsOf, compose, isPresent}
 use Rattle.paging.specs.Walk.{meet}
+use Rattle.paging.proofs.Tests.{both}
 use Rattle.paging.proofs.Indices.{index-small}
 use Rattle.paging.proofs.Rights.{rights-small}
 use Rattle.tables.specs.declared.Path.{Path}
@@ -33,10 +34,6 @@ use Rattle.trees.proofs.Unique.{hang-full, leaf-path, leaf-here, leaf-f
 
 abbrev pub at : ℕ → ℕ → ℕ → Path
 at n t r = record { level = n; table = t; rights = r }
-
-and-true : (a b : Bool) → a && b ≡ true → (a ≡ true) × (b ≡ true)
-and-true true b e = (refl, e)
-and-true false b e = let z : _≡_ {A = ℕ} 0 1 = cc in absurd (omega arith)
 
 -- the first that passes passes
 pub first-passes : (t : ℕ → Bool) (n i : ℕ) → firstFrom i n t < i + n → t (firstFrom i n t) ≡ true
@@ -195,8 +192,8 @@ module _ (M : Machine) (ok : Able M) (map : List ℕ) (outside : Outside M map) 
           → (Stands s m (named M e) (guest (frameOf Y c)) → Settling s (settle M words page m (named M e) (guest (frameOf Y c)) s))
           → Settling s (cond b (settle M words page m (named M e) (guest (frameOf Y c)) s) (settledAt (spot (suc m) t g) (cut M (suc m) t i s)))
       go true q more =
-          let a = and-true (ltb (named M e) (tableCount M) && eqb (rightsOf Y e) (rightsOf Y c)) _ q in
-          let b = and-true (ltb (named M e) (tableCount M)) (eqb (rightsOf Y e) (rightsOf Y c)) (a .0) in
+          let a = both (ltb (named M e) (tableCount M) && eqb (rightsOf Y e) (rightsOf Y c)) _ q in
+          let b = both (ltb (named M e) (tableCount M)) (eqb (rightsOf Y e) (rightsOf Y c)) (a .0) in
           more (further h (named M e) (ltb-true (named M e) (tableCount M) (b .0)) refl (eqb-true (rightsOf Y e) (rightsOf Y c) (b .1)))
       go false q more = record {
         trees = cut-trees M ok map outside s trees t i (suc m) (h .table) (index-in (suc (suc m))) level (omega arith);
@@ -331,10 +328,10 @@ module _ (M : Machine) (ok : Able M) (map : List ℕ) (outside : Outside M map) 
       u-may = first-passes (mayTake M p (s .records)) (tableCount M) 0 (omega (arith, taken-table M p (s .records) free))
 
       u-own : ownerOf M u ≡ p
-      u-own = eqb-true (ownerOf M u) p (and-true (owns M p u) (isFree (s .records) u) u-may .0)
+      u-own = eqb-true (ownerOf M u) p (both (owns M p u) (isFree (s .records) u) u-may .0)
 
       u-free : lev M s u ≡ 0
-      u-free = eqb-true (lev M s u) 0 (and-true (owns M p u) (isFree (s .records) u) u-may .1)
+      u-free = eqb-true (lev M s u) 0 (both (owns M p u) (isFree (s .records) u) u-may .1)
 
       grants : M .tables .nxAlone ≡ 0 → bit (rightsOf Y e) 2 ≡ 1
       grants = ok .grants e

@@ -1,4 +1,5 @@
 pub mod Trees
+pub mod Roots
 pub mod Entries
 pub mod Falls
 pub mod Paths
@@ -10,7 +11,6 @@ pub mod Prunes
 pub mod Cuts
 pub mod Hangs
 pub mod Leaves
-pub mod Roots
 pub mod Empties
 pub mod Shares
 pub mod Fills

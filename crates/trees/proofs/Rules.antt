@@ -1,23 +1,24 @@
 -- The state rules as tests and the trees as a statement say the same; that every root is whole follows from the rest.
-use mathlib.Core.Path.{_≡_, refl, sym, ap, _∙_}
+use mathlib.Core.Path.{_≡_, refl, ap}
 use mathlib.Core.Bool.{Bool, true, _&&_}
 use mathlib.Core.List.{List}
 use mathlib.Core.Logic.{_↔_}
 use Prim.Native.Nat.{ℕ, zero, suc, _+_, _<_}
-use native.Mathlib.Nat.{mul-div-cancel, mul-lt-mul-of-pos-right}
 use native.Mathlib.Omega.{arith}
 use lib.Dec.{eqb, ltb}
 use borrow.Author.Tests.{eq-eqb, ne-eqb, lt-ltb, eqb-true, ltb-true}
 use Rattle.paging.specs.Numbers.{all}
 use Rattle.paging.proofs.Numbers.{all-at}
-use Rattle.tables.specs.State.{Machine, Shadow, State, slotCount, tableCount, ownerOf, rootOf, entryCount, named}
+use Rattle.paging.proofs.Tests.{both}
+use Rattle.tables.specs.State.{Machine, Shadow, State, slotCount, tableCount, rootOf, entryCount, named}
 use Rattle.tables.proofs.Counts.{by-cases}
-use Rattle.lawful.specs.Rules.{isMadeWith, isBranch, isRoot, namesOf, recordRight, entryRight, tableRight, entryBy, tableWhole, slotRight, lawful}
+use Rattle.lawful.specs.Rules.{isMadeWith, isBranch, namesOf, recordRight, entryRight, tableRight, entryBy, tableWhole, slotRight, lawful}
 use Rattle.trees.proofs.Trees.{Able, Outside, Exact, ent, lev, Names, Branch, Trees}
+use Rattle.trees.proofs.Roots.{root-table, root-level}
 use Rattle.trees.proofs.Entries.{zero-names-none}
 use Rattle.trees.proofs.Falls.{leaf-names}
 use Rattle.trees.proofs.Counts.{all-i, pairs-some, pairs-same, pairs-one}
-use Rattle.trees.proofs.Tests.{both, or-true, zero-one-more}
+use Rattle.trees.proofs.Tests.{or-true, zero-one-more}
 use Rattle.trees.proofs.Asked.{Recorded, recorded-right, right-recorded, zero-fine, leaf-fine, branch-fine, fine-zero, fine-leaf, fine-branch}
 
 module _ (M : Machine) (ok : Able M) (map : List ℕ) (outside : Outside M map) (s : Shadow) where
@@ -106,21 +107,11 @@ module _ (M : Machine) (ok : Able M) (map : List ℕ) (outside : Outside M map) 
         (λ i k.
         rw q at (entry-whole (tableWhole M map (s .pool) l) t i h k (omega arith) (λ u hu r. table-whole l u hu (omega arith))))
 
-    pub root-table : (p : ℕ) → p < M .processors → rootOf M p < tableCount M
-    root-table p h = mul-lt-mul-of-pos-right h (ok .some)
-
-    pub root-level : (p : ℕ) → p < M .processors → lev M s (rootOf M p) ≡ M .tables .levels
-    unfolding isRoot
-    root-level p h =
-        eqb-true (lev M s (rootOf M p)) (M .tables .levels)
-        (sym (trees .roots (rootOf M p) (root-table p h))
-        ∙ eq-eqb (rootOf M p) (rootOf M (ownerOf M (rootOf M p))) (ap (rootOf M) (sym (mul-div-cancel p (ok .some)))))
-
     -- EVERY ROOT IS WHOLE
     pub trees-whole : all (M .processors) (λ p. tableWhole M map (s .pool) (M .tables .levels) (rootOf M p)) ≡ true
     trees-whole =
         all-i (λ p. tableWhole M map (s .pool) (M .tables .levels) (rootOf M p)) (M .processors)
-        (λ p h. table-whole (M .tables .levels) (rootOf M p) (root-table p h) (root-level p h))
+        (λ p h. table-whole (M .tables .levels) (rootOf M p) (root-table M ok p h) (root-level M ok map s trees p h))
 
   -- ---- from the tests to the trees
 

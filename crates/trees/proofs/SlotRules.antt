@@ -9,12 +9,13 @@ use lib.Pow.{pow-pos}
 use borrow.Author.Tests.{eq-eqb, ne-eqb, lt-ltb, le-leb, eqb-true, ltb-true, leb-true}
 use Rattle.paging.specs.declared.Request.{Request}
 use Rattle.paging.specs.Request.{enough}
+use Rattle.paging.proofs.Tests.{both}
 use Rattle.tables.specs.declared.Path.{Path}
 use Rattle.tables.specs.State.{Machine, slotCount, markOf, pageIn, placeIn, rightsIn, tableCount, pathTo}
 use Rattle.tables.specs.Steps.{slotServes, flush, emptySlots}
 use Rattle.tables.proofs.Counts.{by-cases}
 use Rattle.lawful.specs.Rules.{isOnPath, slotRight}
-use Rattle.trees.proofs.Tests.{both, zero-one-more}
+use Rattle.trees.proofs.Tests.{zero-one-more}
 use Rattle.trees.proofs.Slots.{SameSlot, Empty, Room, flush-here, emptySlots-here}
 
 module _ {slots slots′ : List ℕ} {p k : ℕ} (same : SameSlot slots slots′ p k) where

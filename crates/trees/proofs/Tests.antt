@@ -4,7 +4,7 @@ use mathlib.Core.Bool.{Bool, true, false, Bool·beq, _&&_, _||_}
 use mathlib.Core.Logic.{_⊎_, inl, inr}
 use Prim.Native.Nat.{ℕ, zero, suc, _<_}
 use native.Mathlib.Omega.{arith}
-use Rattle.paging.proofs.Tests.{and-l, and-r, T-true, true-T}
+use Rattle.paging.proofs.Tests.{true-T, both}
 
 pub false-true : {A : Type 0} → false ≡ true → A
 false-true e = absurd (true-T false e)
@@ -21,9 +21,6 @@ beq-same a b e = rw e (self b)
     self : (b : Bool) → Bool·beq b b ≡ true
     self true = refl
     self false = refl
-
-pub both : (a b : Bool) → (a && b) ≡ true → (a ≡ true) × (b ≡ true)
-both a b e = (T-true a (and-l a b (true-T _ e)), T-true b (and-r a b (true-T _ e)))
 
 pub five : (a b c d e : Bool) → (a && b && c && d && e) ≡ true → (a ≡ true) × (b ≡ true) × (c ≡ true) × (d ≡ true) × (e ≡ true)
 five a b c d e h =

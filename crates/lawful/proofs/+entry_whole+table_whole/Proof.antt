@@ -10,8 +10,8 @@ use borrow.Fn.PlainCycle.{Measures, is, falls, and}
 use Rattle.tables.specs.State.{machine64}
 use Rattle.tables.proofs.Names.{few}
 use Rattle.lawful.specs.Rules.{tableWhole}
-use Rattle.lawful.proofs.Records.{positive}
-use Rattle.lawful.proofs.Wholes.{above-one, Checked, checked-none, checked-more, table-none, table-whole, table-broken, entry-absent, entry-leaf, entry-stray, entry-named}
+use Rattle.paging.proofs.Tests.{positive, above-one}
+use Rattle.lawful.proofs.Wholes.{Checked, checked-none, checked-more, table-none, table-whole, table-broken, entry-absent, entry-leaf, entry-stray, entry-named}
 use Rattle.lawful.proofs.entry_whole.Reads as entry
 use Rattle.lawful.proofs.entry_whole.Kinds as entry-kinds
 use Rattle.lawful.proofs.+entry_whole+table_whole.Lts-entry_whole as entry-lts
@@ -64,7 +64,7 @@ module _ (m : ℕ) where
   table-whole-requires : entry-lts.Need-table-whole-requires entry-calls entry-at-m entry.Post
   table-whole-requires c κs =
       let pre = c .before .before .before .before .before .before .before .pre .1 in
-      let above = above-one (c .before .before .before .before .before .before .before .args .level) (pre .1) (c .before .before .before .if2 .left) in
+      let above = above-one (c .before .before .before .before .before .before .before .args .level) (λ q. omega (arith, pre .1, q)) (c .before .before .before .if2 .left) in
       (omega (arith, above), (pre .0, omega (arith, few (pre .0), c .if3 .left, c .before .table-count .ensures)))
 
   returns-4 : entry-lts.Need-returns-4 entry-calls entry-at-m entry.Post

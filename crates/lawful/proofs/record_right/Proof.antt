@@ -5,8 +5,9 @@ use native.Mathlib.Omega.{arith}
 use lib.Dec.{eqb}
 use borrow.Author.Needs.{needs}
 use Rattle.paging.specs.declared.Guest.{Guest}
+use Rattle.paging.proofs.Tests.{positive}
 use Rattle.tables.specs.State.{levelOf, shadows}
-use Rattle.lawful.proofs.Records.{record-beyond, record-root, record-free, record-high, record-live, positive}
+use Rattle.lawful.proofs.Records.{record-beyond, record-root, record-free, record-high, record-live}
 use Rattle.lawful.proofs.record_right.Statement.{statement}
 use Rattle.lawful.proofs.record_right.Tie as tie
 

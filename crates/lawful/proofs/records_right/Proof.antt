@@ -10,7 +10,6 @@ use Rattle.paging.proofs.Numbers.{all-none, all-more, all-fails}
 use Rattle.tables.specs.State.{shadowOf, machine64, tableCount}
 use Rattle.tables.proofs.Names.{few}
 use Rattle.lawful.specs.Rules.{recordRight, tableRight, namesOf}
-use Rattle.lawful.proofs.Records.{and-false}
 use Rattle.lawful.proofs.records_right.Statement.{statement}
 use Rattle.lawful.proofs.records_right.Tie as tie
 

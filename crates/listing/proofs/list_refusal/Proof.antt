@@ -3,12 +3,12 @@ use mathlib.Core.Path.{_≡_, refl, sym, ap, _∙_}
 use mathlib.Core.Bool.{Bool, true}
 use Prim.Native.Nat.{ℕ, _/_, _≤_}
 use native.Mathlib.Omega.{arith}
-use lib.Dec.{leb}
 use lib.ListN.{length}
 use borrow.Author.Needs.{needs}
-use borrow.Author.Tests.{not-true, not-false, leb-true}
+use borrow.Author.Tests.{not-true, not-false}
 use Rattle.paging.specs.Numbers.{isBetween}
-use Rattle.paging.proofs.Tests.{and-l, and-r, T-true, true-T}
+use Rattle.paging.proofs.Tests.{both}
+use Rattle.paging.proofs.Numbers.{between}
 use Rattle.listing.specs.Call.{Lent, asked, sizesFit, lengthsFit, firstRefusal}
 use Rattle.listing.proofs.Refuses.{or-first, or-second, list-one, list-two, list-seven, list-later}
 use Rattle.listing.proofs.list_refusal.Statement.{statement}
@@ -17,7 +17,7 @@ use Rattle.listing.proofs.list_refusal.Tie as tie
 few : (g p e w k o : ℕ) → sizesFit g p e w k o ≡ true → g ≤ 256
 unfolding sizesFit
 few g p e w k o h =
-    leb-true g 256 (T-true _ (and-r (leb 1 g) _ (and-l (isBetween 1 256 g) _ (true-T _ h))))
+    between 1 256 g (both (isBetween 1 256 g) _ h .0) .1
 
 lengths : {w k o : ℕ} (m p e : ℕ) (b : Lent) (v : Bool) → sizesFit m p e w k o ≡ v → length (b .words) ≡ w → length (b .work) ≡ k → length (b .outcomes) ≡ o
     → sizesFit m p e (length (b .words)) (length (b .work)) (length (b .outcomes)) ≡ v

@@ -1,19 +1,13 @@
 -- Each return is the first test that fails, or the last one.
-use mathlib.Core.Path.{_≡_, sym, _∙_}
-use mathlib.Core.Bool.{true}
-use Prim.Native.Nat.{ℕ, _*_, _/_, _%_, _≤_}
+use mathlib.Core.Path.{sym, _∙_}
+use Prim.Native.Nat.{_*_, _/_, _%_}
 use native.Mathlib.Omega.{arith}
-use lib.Dec.{T, leb}
 use borrow.Author.Needs.{needs}
-use borrow.Author.Tests.{not-true, not-false, eq-eqb, ne-eqb, le-leb, lt-leb, leb-true}
-use Rattle.paging.specs.Numbers.{isBetween}
-use Rattle.paging.proofs.Tests.{and-r, T-true, true-T}
+use borrow.Author.Tests.{not-true, not-false, eq-eqb, ne-eqb, le-leb, lt-leb}
+use Rattle.paging.proofs.Numbers.{between}
 use Rattle.listing.specs.Call.{sizesFit}
 use Rattle.listing.proofs.sizes_fit.Statement.{statement}
 use Rattle.listing.proofs.sizes_fit.Tie as tie
-
-upper : (lo hi x : ℕ) → isBetween lo hi x ≡ true → x ≤ hi
-upper lo hi x e = leb-true x hi (T-true _ (and-r (leb lo x) _ (true-T _ e)))
 
 returns : tie.Need-returns
 unfolding sizesFit
@@ -44,7 +38,7 @@ returns-4 c =
 
 mul-if5 : tie.Need-mul-if5
 mul-if5 c =
-    let few = upper 1 256 (c .before .before .before .before .before .before .args .map) (sym (c .before .before .before .before .before .is-between .ensures) ∙ not-false _ (c .before .before .before .before .if1 .left)) in
+    let few = between 1 256 (c .before .before .before .before .before .before .args .map) (sym (c .before .before .before .before .before .is-between .ensures) ∙ not-false _ (c .before .before .before .before .if1 .left)) in
     omega arith
 
 returns-5 : tie.Need-returns-5
@@ -57,7 +51,7 @@ returns-5 c =
 
 mul-if6 : tie.Need-mul-if6
 mul-if6 c =
-    let few = upper 1 256 (c .before .before .before .before .before .before .before .args .map) (sym (c .before .before .before .before .before .before .is-between .ensures) ∙ not-false _ (c .before .before .before .before .before .if1 .left)) in
+    let few = between 1 256 (c .before .before .before .before .before .before .before .args .map) (sym (c .before .before .before .before .before .before .is-between .ensures) ∙ not-false _ (c .before .before .before .before .before .if1 .left)) in
     omega arith
 
 returns-6 : tie.Need-returns-6
@@ -70,12 +64,12 @@ returns-6 c =
 
 few-at-end : tie.Need-add-result
 few-at-end c =
-    let few = upper 1 256 (c .before .before .before .before .before .before .before .before .args .map) (sym (c .before .before .before .before .before .before .before .is-between .ensures) ∙ not-false _ (c .before .before .before .before .before .before .if1 .left)) in
+    let few = between 1 256 (c .before .before .before .before .before .before .before .before .args .map) (sym (c .before .before .before .before .before .before .before .is-between .ensures) ∙ not-false _ (c .before .before .before .before .before .before .if1 .left)) in
     omega arith
 
 mul-result : tie.Need-mul-result
 mul-result c =
-    let few = upper 1 256 (c .before .before .before .before .before .before .before .before .args .map) (sym (c .before .before .before .before .before .before .before .is-between .ensures) ∙ not-false _ (c .before .before .before .before .before .before .if1 .left)) in
+    let few = between 1 256 (c .before .before .before .before .before .before .before .before .args .map) (sym (c .before .before .before .before .before .before .before .is-between .ensures) ∙ not-false _ (c .before .before .before .before .before .before .if1 .left)) in
     omega arith
 
 returns-7 : tie.Need-returns-7

@@ -14,7 +14,7 @@ use Rattle.paging.proofs.map_fits.Statement.{statement}
 use Rattle.paging.proofs.map_fits.Tie as tie
 
 abbrev fits : List ℕ → ℕ → Bool
-fits map i = ltb (getD map i 0) (2 ^ 40) && isNew map i
+fits map i = ltb (getD map i 0) (2 ^ 40) && isNew map i (getD map i 0)
 
 abbrev Inv-loop : tie.InvT-loop
 Inv-loop map i₀ i = (i ≤ length map) × (all i (fits map) ≡ true)

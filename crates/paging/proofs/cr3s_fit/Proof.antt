@@ -7,11 +7,11 @@ use native.Mathlib.Omega.{arith}
 use lib.Dec.{ltb}
 use lib.ListN.{length, getD}
 use borrow.Author.Tests.{lt-ltb, le-ltb}
 use Rattle.paging.specs.Numbers.{all}
 use Rattle.paging.proofs.Numbers.{all-none, all-more, all-fails}
-use Rattle.listing.specs.Call.{cr3sFit}
-use Rattle.listing.proofs.cr3s_fit.Statement.{statement}
-use Rattle.listing.proofs.cr3s_fit.Tie as tie
+use Rattle.paging.specs.Frame.{cr3sFit}
+use Rattle.paging.proofs.cr3s_fit.Statement.{statement}
+use Rattle.paging.proofs.cr3s_fit.Tie as tie
 
 abbrev fits : ℕ → List ℕ → ℕ → Bool
 fits frames cr3s p = ltb (getD cr3s p 0) frames

@@ -1,7 +1,7 @@
 -- Both bounds.
 use borrow.Author.Tests.{le-leb, lt-leb}
-use Rattle.listing.proofs.is_between.Statement.{statement}
-use Rattle.listing.proofs.is_between.Tie as tie
+use Rattle.paging.proofs.is_between.Statement.{statement}
+use Rattle.paging.proofs.is_between.Tie as tie
 
 returns : tie.Need-returns
 returns c = let a = c .before .args in simp (lt-leb (a .lo) (a .x) (c .if1 .taken))
