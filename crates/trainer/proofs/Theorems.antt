@@ -1,20 +1,32 @@
 -- What is proved of `answers` and `run`. Their promises are `AnswersCall` and `RunCall` in specs/; the functions in src/ are proved to keep them.
 use mathlib.Core.Path.{_≡_, sym, ap, _∙_}
-use mathlib.Core.List.{List, _++_}
-use Prim.Native.Nat.{ℕ, _/_}
+use mathlib.Core.List.{List, [], _++_}
+use Prim.Native.Nat.{ℕ, _*_, _/_, _<_}
+use native.Mathlib.Omega.{arith}
 use native.Mathlib.Decide.{ℕ-discrete}
+use lib.Dec.{leb}
 use lib.ListN.{length, drop}
 use Rattle.rules.specs.declared.Outcome.{Outcome}
-use Rattle.sections.specs.Sections.{Got, got, refused, Puzzle}
-use Rattle.rules.specs.Numbers.{questionOf}
-use Rattle.puzzle.specs.Buffers.{Buffers}
+use Rattle.rules.specs.History.{setup64, eventAt, eventRefusal, Fit}
+use Rattle.rules.specs.Numbers.{eventOf, eventsOf, questionOf}
+use Rattle.listing.proofs.Accepts.{event-at, events-length}
+use Rattle.tables.specs.State.{machine64, State}
+use Rattle.shadow.specs.After.{asSetup}
+use Rattle.sections.specs.Sections.{Got, got, refused, Puzzle, puzzleOf}
+use Rattle.puzzle.specs.Buffers.{Buffers, wordsOf}
+use Rattle.puzzle.proofs.Accepted.{accepted}
+use Rattle.puzzle.proofs.Fits.{event-fits}
+use Rattle.puzzle.proofs.Theorems as reads
 use Rattle.render.specs.Render.{renderQuestion}
 use Rattle.trainer.specs.declared.Written.{Written}
 use Rattle.trainer.specs.declared.Written.the-variants.{Bytes}
 use Rattle.trainer.specs.Call.{posed, puzzleIn, Lines, Prints, Call}
 use Rattle.trainer.specs.Answers.{AnswersOf, AnswersCall}
-use Rattle.trainer.specs.Run.{RunOf, RunCall}
+use Rattle.trainer.specs.Run.{sizesOf, RunOf, RunCall}
+use Rattle.trainer.specs.Parts.{Startable}
 use Rattle.trainer.proofs.Turns.{joined-same, one-right}
+use Rattle.trainer.proofs.Puzzles.{ready}
+use Rattle.trainer.proofs.Wholes.{in-text}
 
 -- of one puzzle one list of bytes is printed: then a call has one result
 module _ (Of : Lines) (one : (b : Buffers) (x y : List ℕ) → Of b x → Of b y → x ≡ y) where
@@ -46,3 +58,28 @@ one-answers = call-same AnswersOf answers-same
 
 pub one-run : (text before : List ℕ) (r s : Written) (x y : List ℕ) → RunCall text before r x → RunCall text before s y → (r ≡ s) × (x ≡ y)
 one-run = call-same RunOf (λ b x y p q. p ∙ sym q)
+
+-- OF AN ACCEPTED TEXT `run` FINDS NOTHING OUT OF RANGE
+module _ (text : List ℕ) {z : Puzzle} {at : ℕ} (e : puzzleIn text ≡ got z at) where
+  read : puzzleOf text ≡ got z at
+  read = in-text text (leb (length text) 65536) e
+
+  -- setup takes its map and its CR3s
+  pub starts : Startable (z .map) (z .cr3s)
+  starts = ready text z at read .starts
+
+  -- its events are a history that fits
+  pub fits : Fit (setup64 (length (z .map)) (length (z .cr3s)) (wordsOf z) (z .cr3s)) (eventsOf (z .events))
+  fits = record {
+    starts = reads.cr3s-below text read;
+    events = λ k h.
+        let lt : k < length (z .events) / 4 = omega (arith, events-length (z .events)) in
+        ap (eventRefusal (setup64 (length (z .map)) (length (z .cr3s)) (wordsOf z) (z .cr3s))) (event-at (z .events) k lt) ∙ reads.events-fit text read k (omega arith);
+  }
+
+  -- and no state makes the event call refuse one with 4 to 9 or 11
+  pub in-range : (s : State) (k : ℕ) → k < length (z .events) / 4
+      → eventRefusal (asSetup (machine64 (sizesOf (z .map) (z .cr3s))) s) (eventAt (eventsOf (z .events)) k) ≡ 0
+  in-range s k h =
+      ap (eventRefusal (asSetup (machine64 (sizesOf (z .map) (z .cr3s))) s)) (event-at (z .events) k h)
+      ∙ event-fits (accepted text read .events) k (omega arith) (s .words) []

@@ -60,7 +60,7 @@ pub record Took (text : List ℕ) (b : Buffers) (g p e q : ℕ) : Type 0 where
   pub counts : Counts b g p e q
   pub ready : Ready (posed puzzle)
 
-in-text : (text : List ℕ) (t : Bool) {z : Puzzle} {at : ℕ} → cond t (puzzleOf text) (refused 1 0) ≡ got z at → puzzleOf text ≡ got z at
+pub in-text : (text : List ℕ) (t : Bool) {z : Puzzle} {at : ℕ} → cond t (puzzleOf text) (refused 1 0) ≡ got z at → puzzleOf text ≡ got z at
 in-text text true e = e
 in-text text false e = let y : _≡_ {A = ℕ} 0 1 = cc in absurd (omega arith)
 

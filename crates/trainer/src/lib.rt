@@ -173,6 +173,7 @@ fn put_events(
     at
 }
 
+// Setup takes every accepted puzzle, so that its answer need not be looked at.
 fn put_machine(
     out: &mut [u8],
     map: &[u64],
@@ -196,7 +197,7 @@ fn put_machine(
     put_events(out, map, words, pool, records, slots, z, events)
 }
 
-// As many tables, records and slots as the processors have.
+// The machine wants exact lengths: four tables with their records, and eight slots, to a processor.
 fn put_share(
     out: &mut [u8],
     map: &[u64],
@@ -223,6 +224,7 @@ fn put_share(
     )
 }
 
+// At most four processors.
 fn put_run(out: &mut [u8], map: &[u64], cr3s: &[u64], words: &mut [u64], events: &[u64]) -> usize
     requires { ⌜ (length (now out) ≡ 16384) × (length (now events) ≤ 1024) × Startable (now map) (now cr3s) ⌝ }
     ensures { λ r. ⌜ RunPut (now (map .entry)) (now (cr3s .entry)) (now (words .entry)) (now (events .entry)) (now (out .entry)) r (now (out .exit)) ⌝ }
