@@ -21,7 +21,9 @@ fn put(xs: &mut [u64], numbers: &[u64]) {
 }
 
 fn shown(xs: &[u64], places: &[u64]) -> String {
-    let values = places.iter().map(|&place| format!(" {}", xs[place as usize]));
+    let values = places
+        .iter()
+        .map(|&place| format!(" {}", xs[place as usize]));
     values.collect()
 }
 

@@ -9,7 +9,7 @@ pub fn print(s: &[u8]) {
     io::write_all(STDOUT_FILENO, s);
 }
 
-pub fn print_number(n: u64) {
+fn print_number(n: u64) {
     print(b" ");
     io::print_decimal(STDOUT_FILENO, n);
 }
