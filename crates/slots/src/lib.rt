@@ -43,7 +43,7 @@ pub fn serving_slot(slots: &[u64], p: u64, page: u64, q: Request) -> u64
     requires { ⌜ (p < 4) × (24 * p + 24 ≤ length (now slots)) × (q .needs < 8) ⌝ }
     ensures { λ r. ⌜ r ≡ servingSlot (now (slots .entry)) p page q ⌝ }
 {
-    let mut k = 0;
+    let mut k: u64 = 0;
     let found = loop {
         if k >= 8 {
             break 8;
