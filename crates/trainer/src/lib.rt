@@ -16,7 +16,7 @@ pub enum Written {
     Refused(u64),
 }
 
-fn copy(words: &mut [u64], start: &[u64])
+pub fn copy(words: &mut [u64], start: &[u64])
     requires { ⌜ length (now words) ≡ length (now start) ⌝ }
     ensures { λ _. ⌜ now (words .exit) ≡ now (start .entry) ⌝ }
 {
