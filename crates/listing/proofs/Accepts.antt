@@ -25,6 +25,15 @@ use Rattle.listing.specs.Replay.{Reach}
 use Rattle.listing.specs.Answer.{Ready}
 use Rattle.listing.proofs.Refuses.{or-none, first-each}
 
+-- an event of the list is the one that its four numbers say
+pub event-at : (ns : List ℕ) (k : ℕ) → k < length ns / 4 → eventAt (eventsOf ns) k ≡ eventOf ns k
+unfolding eventsOf
+event-at ns k h = tab-at (length ns / 4) (eventOf ns) k (record { proc = 0; kind = 0; a = 0; b = 0 }) h
+
+pub events-length : (ns : List ℕ) → length (eventsOf ns) ≡ length ns / 4
+unfolding eventsOf
+events-length ns = tab-length (length ns / 4) (eventOf ns)
+
 -- the sizes, one by one
 pub record Sized (map cr3s events words work outcomes : ℕ) : Type 0 where
   pub some : 1 ≤ map
@@ -84,18 +93,10 @@ module _ (q : Asked) (b : Lent) where
     pub room : Room (length (q .map)) (b .words) (b .work)
     room = record { few = ok .sizes .few; whole = ok .sizes .whole; bytes = ok .sizes .bytes }
 
-    pub event-at : (k : ℕ) → k < length (q .events) / 4 → eventAt (eventsOf (q .events)) k ≡ eventOf (q .events) k
-    unfolding eventsOf
-    event-at k h = tab-at (length (q .events) / 4) (eventOf (q .events)) k (record { proc = 0; kind = 0; a = 0; b = 0 }) h
-
-    pub events-length : length (eventsOf (q .events)) ≡ length (q .events) / 4
-    unfolding eventsOf
-    events-length = tab-length (length (q .events) / 4) (eventOf (q .events))
-
     pub fit : Fit (setupOf q b) (eventsOf (q .events))
     fit = record {
       starts = ok .starts;
-      events = λ k h. let lt : k < length (q .events) / 4 = omega (arith, events-length) in ap (eventRefusal (setupOf q b)) (event-at k lt) ∙ ok .events k lt;
+      events = λ k h. let lt : k < length (q .events) / 4 = omega (arith, events-length (q .events)) in ap (eventRefusal (setupOf q b)) (event-at (q .events) k lt) ∙ ok .events k lt;
     }
 
     pub reach : (k : ℕ) → k < length (q .events) / 4 → Reach (length (q .map)) (eventOf (q .events) k)

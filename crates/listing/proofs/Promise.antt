@@ -63,7 +63,7 @@ module _ (q : Asked) (b : Lent) (ok : Accepted q b) where
   unfolding stateAt
   final =
       replayed-follows G (length (q .cr3s)) (b .words) (q .cr3s) (eventsOf (q .events)) (q .question .proc) page (fit q b ok) (ok .proc) (b .work) (ok .sizes .bytes)
-      (q .events) N (event-at q b ok) (reach q b ok) _
+      (q .events) N (event-at (q .events)) (reach q b ok) _
       (started G (length (q .cr3s)) (b .words) (q .cr3s) (eventsOf (q .events)) (q .question .proc) page (fit q b ok) (ok .proc) (b .work) (ok .sizes .bytes))
 
   -- AN ACCEPTED CALL KEEPS ITS PROMISE

@@ -27,7 +27,7 @@ pub enum Listed {
     Refused(u64),
 }
 
-fn event_at(events: &[u64], k: usize) -> Event
+pub fn event_at(events: &[u64], k: usize) -> Event
     requires { ⌜ 4 * k + 3 < length (now events) ⌝ }
     ensures { λ r. ⌜ r ≡ eventOf (now (events .entry)) k ⌝ }
 {

@@ -1,4 +1,4 @@
--- What `answers` prints, as the list of its bytes.
+-- What `answers` and `run` print, as the list of its bytes.
 use mathlib.Core.List.{List, [], _∷_, _++_}
 use Prim.Native.Nat.{ℕ, _+_, _*_, _%_}
 use lib.ListN.{length}
@@ -33,3 +33,7 @@ renderOutcomes map addr (o ∷ os) = renderOutcome map addr o ++ renderOutcomes 
 -- "per question `Q processor address request count`, then …"
 abbrev pub renderQuestion : List ℕ → Question → List Outcome → List ℕ
 renderQuestion map q os = line 81 (q .proc ∷ q .addr ∷ q .request ∷ length os ∷ []) ++ renderOutcomes map (q .addr) os
+
+-- "per event `E index kind value`"
+abbrev pub renderEvent : ℕ → ℕ → ℕ → List ℕ
+renderEvent index kind value = line 69 (index ∷ kind ∷ value ∷ [])

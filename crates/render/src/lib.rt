@@ -1,12 +1,12 @@
-// The lines of `answers`, written into a lent buffer. Each function takes the place of its first byte and gives the one after its last.
+// The lines of `answers` and `run`, written into a lent buffer. Each function takes the place of its first byte and gives the one after its last.
 use paging::Guest;
 use rules::Question;
 ghost use mathlib.Core.Path.{_≡_};
 ghost use mathlib.Core.List.{_∷_};
-ghost use Prim.Native.Nat.{_+_, _*_, _≤_};
+ghost use Prim.Native.Nat.{_+_, _*_, _<_, _≤_};
 ghost use lib.ListN.{length};
 ghost use Rattle.cursor.specs.Text.{digitsOf};
-ghost use Rattle.render.specs.Render.{line};
+ghost use Rattle.render.specs.Render.{line, renderEvent};
 ghost use Rattle.render.specs.Written.{outOf, written};
 ghost use Rattle.render.specs.Lines.{pairLine, pairLines, questionLines, Mapped, AllMapped};
 
@@ -82,4 +82,12 @@ pub fn put_question(out: &mut [u8], at: usize, map: &[u64], q: Question, pairs: 
     let count = (pairs.len() / 2) as u64;
     let end = put_line(out, at, b'Q', &[q.proc, q.addr, q.request, count]);
     put_outcomes(out, end, map, q.addr, pairs)
+}
+
+// A kind has one digit; without that the lines of 256 events might not fit into 16,384 bytes.
+pub fn put_event(out: &mut [u8], at: usize, index: u64, kind: u64, value: u64) -> usize
+    requires { ⌜ (at + 65 ≤ length (now out)) × (kind < 10) ⌝ }
+    ensures { λ r. ⌜ (outOf r (now (out .exit)) ≡ written (renderEvent index kind value) (outOf at (now (out .entry)))) × (r ≤ at + 46) ⌝ }
+{
+    put_line(out, at, b'E', &[index, kind, value])
 }

@@ -1,2 +1,3 @@
 pub mod After
 pub mod Ready
+pub mod Runs

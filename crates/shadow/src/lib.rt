@@ -11,7 +11,7 @@ ghost use Rattle.paging.specs.Layout.{tables64, rightsOf, isPresent};
 ghost use Rattle.paging.specs.Request.{enough};
 ghost use Rattle.paging.specs.Walk.{meet};
 ghost use Rattle.tables.specs.State.{Shadow, shadowOf, State, stateOf, machine64, Sized, Room};
-ghost use Rattle.shadow.specs.After.{gives, afterStore, leafCleared, afterInvlpg, afterCr3, afterBegin, placeBelow, afterExtend, afterLoss, valueAt, dirtied, fill, afterMiss, afterAccess, decode, moved, isBetween, rangesFit, lengthsFit, poolFits, inPool, framesFit, callRefusal, after, rooted, cr3sFit, setupRefusal, afterSetup};
+ghost use Rattle.shadow.specs.After.{kindOf, valueOf, gives, afterStore, leafCleared, afterInvlpg, afterCr3, afterBegin, placeBelow, afterExtend, afterLoss, valueAt, dirtied, fill, afterMiss, afterAccess, decode, moved, isBetween, rangesFit, lengthsFit, poolFits, inPool, framesFit, callRefusal, after, rooted, cr3sFit, setupRefusal, afterSetup};
 ghost use Rattle.shadow.specs.Ready.{Ready, Standing, Fitting};
 use paging::Guest;
 use paging::Host;
@@ -32,6 +32,32 @@ pub enum Answer {
     Again,
     NoStep,
     Refused(u64),
+}
+
+pub fn kind_of(a: Answer) -> u64
+    ensures { λ r. ⌜ r ≡ kindOf a ⌝ }
+{
+    match a {
+        Answer::Done => 0,
+        Answer::Address(_) => 1,
+        Answer::Fault(_) => 2,
+        Answer::Again => 3,
+        Answer::NoStep => 4,
+        Answer::Refused(_) => 0,
+    }
+}
+
+pub fn value_of(a: Answer) -> u64
+    ensures { λ r. ⌜ r ≡ valueOf a ⌝ }
+{
+    match a {
+        Answer::Done => 0,
+        Answer::Address(v) => v,
+        Answer::Fault(code) => code,
+        Answer::Again => 0,
+        Answer::NoStep => 0,
+        Answer::Refused(_) => 0,
+    }
 }
 
 // Where a walk moves to: a guest frame or a table; or nowhere.

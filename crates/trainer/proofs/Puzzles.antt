@@ -1,14 +1,14 @@
 -- What an accepted text stands for: the list call takes each of its questions, and its lists stand in front of the buffers.
 use mathlib.Core.Path.{_≡_, refl, sym, ap, ap₂, _∙_, subst, subst⁻¹}
 use mathlib.Core.Bool.{Bool, true, false, cond, not, _&&_}
-use mathlib.Core.List.{List, _++_}
+use mathlib.Core.List.{List, [], _∷_, _++_}
 use Prim.Native.Nat.{ℕ, zero, suc, _+_, _*_, _/_, _%_, _^_, _≤_, _<_}
 use native.Mathlib.Numerals.{add-one}
 use native.Mathlib.Omega.{arith}
 use lib.Dec.{eqb, ltb, leb}
 use lib.ListN.{length, take, drop, getD, length-append}
 use lib.Seq.{take-append-seam}
-use borrow.Author.Tests.{eq-eqb, ne-eqb, lt-ltb, le-leb, leb-true}
+use borrow.Author.Tests.{eq-eqb, ne-eqb, lt-ltb, lt-leb, le-leb, leb-true}
 use Rattle.paging.specs.Numbers.{all, isBetween}
 use Rattle.paging.specs.Frame.{isNew, mapFits}
 use Rattle.paging.specs.Layout.{frameWords}
@@ -27,8 +27,12 @@ use Rattle.puzzle.specs.Buffers.{Buffers, buffers, After, after, laid, wordsOf,
 use Rattle.puzzle.specs.Parts.{Lengths}
 use Rattle.puzzle.proofs.Accepted.{InRange, accepted}
 use Rattle.puzzle.proofs.Theorems as reads
-use Rattle.trainer.specs.Answers.{posed, puzzleIn}
-use Rattle.trainer.specs.Parts.{Posed, Ready, Counts, cut}
+use Rattle.tables.specs.State.{machine64, shadowOf, stateOf}
+use Rattle.shadow.specs.After as machine
+use Rattle.rules.specs.Refusal.{test, refusal}
+use Rattle.trainer.specs.Call.{posed, puzzleIn}
+use Rattle.trainer.specs.Run.{sizesOf}
+use Rattle.trainer.specs.Parts.{Posed, Startable, Ready, Counts, cut}
 
 all-each : (n : ℕ) (f : ℕ → Bool) → ((k : ℕ) → k < n → f k ≡ true) → all n f ≡ true
 unfolding all
@@ -39,6 +43,10 @@ first-all : (n : ℕ) (f : ℕ → ℕ) → ((k : ℕ) → k < n → f k ≡ 0) 
 unfolding firstRefusal
 first-all zero f h = refl
 first-all (suc n) f h = or-second (firstRefusal n f) (f n) (first-all n f (λ k l. h k (omega arith))) ∙ h n (omega arith)
+
+no-test : (a b c : Bool) → a ≡ true → b ≡ true → c ≡ true → refusal (test 1 (not a) ∷ test 2 (not b) ∷ test 7 (not c) ∷ []) ≡ 0
+unfolding refusal
+no-test a b c p q r = simp (p, q, r)
 
 -- ---- a puzzle whose numbers are in range
 
@@ -107,5 +115,27 @@ module _ (text : List ℕ) (z : Puzzle) (at : ℕ) (e : puzzleOf text ≡ got z 
           ∙ or-second (firstRefusal (length (z .events) / 4) f) (questionRefusal (setupOf a b) (questionOf (z .questions) k)) (first-all (length (z .events) / 4) f (λ j l. reads.events-fit text e j (omega arith)))
           ∙ reads.questions-fit text e k (omega arith)
 
+  -- setup's own tests: P and G are in range, the lengths are exact, and map frames lie below the pool
+  frames-fit : machine.framesFit (machine64 (sizesOf (z .map) (z .cr3s))) (z .map) ≡ true
+  unfolding machine.framesFit machine.poolFits machine.inPool
+  frames-fit =
+      let P = length (z .cr3s) in
+      simp (le-leb (2 ^ 20 + P * 4) (2 ^ 40) (omega (arith, range .processors)), map-fits, all-each (length (z .map)) (λ i. not (leb (2 ^ 20) (getD (z .map) i 0) && ltb (getD (z .map) i 0) (2 ^ 20 + P * 4))) (λ i h. simp (lt-leb (2 ^ 20) (getD (z .map) i 0) (reads.map-below text e i h))))
+
+  starts : Startable (z .map) (z .cr3s)
+  unfolding cr3sFit machine.setupRefusal machine.rangesFit machine.lengthsFit machine.cr3sFit
+  starts = record { few = range .processors; taken = taken }
+    where
+      taken : (pool records slots : List ℕ) → length pool ≡ 2048 * length (z .cr3s) → length records ≡ 8 * length (z .cr3s) → length slots ≡ 24 * length (z .cr3s)
+          → machine.setupRefusal (machine64 (sizesOf (z .map) (z .cr3s))) (z .map) (z .cr3s) (stateOf [] (shadowOf pool records) slots) ≡ 0
+      taken pool records slots a b c =
+          let G = length (z .map) in
+          let P = length (z .cr3s) in
+          let r = range in
+          let M = machine64 (sizesOf (z .map) (z .cr3s)) in
+          no-test (machine.rangesFit M && machine.lengthsFit M (z .map) (shadowOf pool records) slots && eqb P P) (machine.framesFit M (z .map)) (machine.cr3sFit M (z .cr3s))
+          (simp (le-leb 1 G (r .some), le-leb G 256 (omega (arith, r .frames)), le-leb 1 P (r .one), le-leb P 4 (r .processors), eq-eqb G G refl, eq-eqb P P refl, eq-eqb (length pool) (512 * (P * 4)) (omega arith), eq-eqb (length records) (2 * (P * 4)) (omega arith), eq-eqb (length slots) (24 * P) c))
+          frames-fit cr3s-fit
+
   pub ready : Ready (posed z)
-  ready = record { words = omega (arith, reads.words-long text e, range .frames); few = range .questions; each = posed-each }
+  ready = record { words = omega (arith, reads.words-long text e, range .frames); few = range .questions; events = range .events; starts = starts; each = posed-each }

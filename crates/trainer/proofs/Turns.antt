@@ -14,7 +14,8 @@ use Rattle.puzzle.specs.Buffers.{Buffers}
 use Rattle.render.specs.Render.{renderQuestion}
 use Rattle.render.specs.Written.{Out, outOf, written}
 use Rattle.render.proofs.Writes.{written-append}
-use Rattle.trainer.specs.Answers.{joined, RightOf, Rendering}
+use Rattle.trainer.specs.Call.{joined}
+use Rattle.trainer.specs.Answers.{RightOf, Rendering}
 use Rattle.trainer.specs.Parts.{Answered}
 
 pub joined-more : (n : ℕ) (f : ℕ → List ℕ) → joined (n + 1) f ≡ joined n f ++ f n

@@ -18,7 +18,7 @@ use Rattle.puzzle.proofs.Theorems as reads
 use Rattle.render.specs.Written.{Out, outOf, written}
 use Rattle.render.proofs.Writes.{written-at, written-front}
 use Rattle.trainer.specs.declared.Written.the-variants.{Bytes}
-use Rattle.trainer.specs.Answers.{posed, puzzleIn, Prints, AnswersCall}
+use Rattle.trainer.specs.Call.{posed, puzzleIn, Lines, Prints, Call}
 use Rattle.trainer.specs.Parts.{Ready, Counts, cut}
 use Rattle.trainer.proofs.Puzzles.{Sizes, sizes, ready}
 
@@ -60,7 +60,7 @@ pub record Took (text : List ℕ) (b : Buffers) (g p e q : ℕ) : Type 0 where
   pub counts : Counts b g p e q
   pub ready : Ready (posed puzzle)
 
-in-text : (text : List ℕ) (t : Bool) {z : Puzzle} {at : ℕ} → cond t (puzzleOf text) (refused 1 0) ≡ got z at → puzzleOf text ≡ got z at
+pub in-text : (text : List ℕ) (t : Bool) {z : Puzzle} {at : ℕ} → cond t (puzzleOf text) (refused 1 0) ≡ got z at → puzzleOf text ≡ got z at
 in-text text true e = e
 in-text text false e = let y : _≡_ {A = ℕ} 0 1 = cc in absurd (omega arith)
 
@@ -100,9 +100,9 @@ took text new eq = took-by text zeros new (puzzleIn text) refl eq
 
 -- ---- what was written
 
-pub call-by : (text before : List ℕ) (r : ℕ) (last bytes : List ℕ) → Prints (puzzleIn text) bytes → outOf r last ≡ written bytes (outOf 0 before) → r ≤ 16384
-    → length before ≡ 16384 → AnswersCall text before (Bytes r) last
-call-by text before r last bytes p e few long =
+pub call-by : (Of : Lines) (text before : List ℕ) (r : ℕ) (last bytes : List ℕ) → Prints Of (puzzleIn text) bytes → outOf r last ≡ written bytes (outOf 0 before) → r ≤ 16384
+    → length before ≡ 16384 → Call Of text before (Bytes r) last
+call-by Of text before r last bytes p e few long =
     let n : r ≡ length bytes = omega (arith, ap (λ (o : Out). o .at) e ∙ written-at bytes (outOf 0 before)) in
     let h : length bytes ≤ length before = omega arith in
     let w = e ∙ written-front bytes before h in

@@ -1,2 +1,4 @@
+pub mod Call
 pub mod Answers
+pub mod Run
 pub mod Parts

@@ -1,6 +1,6 @@
--- What the functions below `answers` ask for and leave.
+-- What the functions below `answers` and `run` ask for and leave.
 use mathlib.Core.Path.{_≡_}
-use mathlib.Core.List.{List}
+use mathlib.Core.List.{List, []}
 use Prim.Native.Nat.{ℕ, _+_, _*_, _/_, _^_, _≤_, _<_}
 use lib.ListN.{length, take, getD}
 use Rattle.paging.specs.Layout.{frameWords}
@@ -8,10 +8,21 @@ use Rattle.rules.specs.declared.Question.{Question}
 use Rattle.rules.specs.declared.Outcome.{Outcome}
 use Rattle.listing.specs.Call.{asked, lent, listRefusal, pairs}
 use Rattle.puzzle.specs.Buffers.{Buffers, buffers}
-use Rattle.rules.specs.Numbers.{questionOf}
+use Rattle.rules.specs.Numbers.{eventsOf, questionOf}
 use Rattle.render.specs.Render.{renderQuestion}
 use Rattle.render.specs.Written.{outOf, written}
-use Rattle.trainer.specs.Answers.{RightOf, Rendering}
+use Rattle.tables.specs.declared.Sizes.{Sizes}
+use Rattle.tables.specs.State.{Machine, machine64, shadowOf, State, stateOf}
+use Rattle.shadow.specs.After.{setupRefusal, started}
+use Rattle.trainer.specs.declared.Program.{Program}
+use Rattle.trainer.specs.declared.Program.the-variants.{Answers, Run}
+use Rattle.trainer.specs.Call.{joined, Lines}
+use Rattle.trainer.specs.Answers.{RightOf, AnswersOf}
+use Rattle.trainer.specs.Run.{sizesOf, eventLine, RunOf}
+
+abbrev pub LinesOf : Program → Lines
+LinesOf Answers = AnswersOf
+LinesOf Run = RunOf
 
 module _ (map cr3s words events : List ℕ) (q : Question) where
   -- the list call takes this question, with 640 work bytes and 38 numbers for outcomes; host addresses are numbers of 64 bits
@@ -33,16 +44,35 @@ module _ (map cr3s words events : List ℕ) (q : Question) where
     pub wrote : outOf r after ≡ written (renderQuestion map q list) (outOf at before)
     pub few : r ≤ at + 922
 
--- every question can be asked
+-- setup takes this map and these CR3s, whatever the buffers hold that it fills
+pub record Startable (map cr3s : List ℕ) : Type 0 where
+  pub few : length cr3s ≤ 4
+  pub taken : (pool records slots : List ℕ) → length pool ≡ 2048 * length cr3s → length records ≡ 8 * length cr3s → length slots ≡ 24 * length cr3s
+      → setupRefusal (machine64 (sizesOf map cr3s)) map cr3s (stateOf [] (shadowOf pool records) slots) ≡ 0
+
+-- the lines of a run from a state were written
+pub record EventsPut (M : Machine) (map : List ℕ) (start : State) (events before : List ℕ) (r : ℕ) (after : List ℕ) : Type 0 where
+  pub wrote : outOf r after ≡ written (joined (length events / 4) (eventLine M map start (eventsOf events))) (outOf 0 before)
+  pub few : r ≤ 16384
+
+-- from setup
+abbrev pub RunPut : List ℕ → List ℕ → List ℕ → List ℕ → List ℕ → ℕ → List ℕ → Type 0
+RunPut map cr3s words events before r after =
+    let M = machine64 (sizesOf map cr3s) in
+    EventsPut M map (started M cr3s words) events before r after
+
+-- every question can be asked, and the machine can start
 pub record Ready (b : Buffers) : Type 0 where
   pub words : length (b .words) ≤ 8192
   pub few : length (b .questions) ≤ 48
+  pub events : length (b .events) ≤ 1024
+  pub starts : Startable (b .map) (b .cr3s)
   pub each : (k : ℕ) → k < length (b .questions) / 3 → Posed (b .map) (b .cr3s) (b .words) (b .events) (questionOf (b .questions) k)
 
--- the lines of all questions were written
-pub record AllAnswered (b : Buffers) (before : List ℕ) (r : ℕ) (after : List ℕ) : Type 0 where
+-- all lines were written
+pub record AllPut (Of : Lines) (b : Buffers) (before : List ℕ) (r : ℕ) (after : List ℕ) : Type 0 where
   pub bytes : List ℕ
-  pub rendering : Rendering b (length (b .questions) / 3) bytes
+  pub lines : Of b bytes
   pub wrote : outOf r after ≡ written bytes (outOf 0 before)
   pub few : r ≤ 16384
 

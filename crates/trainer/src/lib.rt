@@ -1,20 +1,33 @@
-// `answers`: from the text of a puzzle to the lines that are printed, in a lent buffer.
+// `answers` and `run`: from the text of a puzzle to the lines that are printed, in a lent buffer.
 use listing::Listed;
 use puzzle::ReadResult;
 use rules::Question;
+use shadow::Answer;
+use tables::Sizes;
 ghost use mathlib.Core.Path.{_≡_};
 ghost use Prim.Native.Nat.{_+_, _*_, _/_, _≤_, _<_};
 ghost use lib.ListN.{length};
 ghost use Rattle.puzzle.specs.Buffers.{buffers};
 ghost use Rattle.rules.specs.Numbers.{questionOf};
-ghost use Rattle.trainer.specs.Answers.{AnswersCall};
-ghost use Rattle.trainer.specs.Parts.{Posed, Found, Answered, Ready, AllAnswered, Counts, cut};
+ghost use Rattle.tables.specs.State.{machine64, shadowOf, stateOf};
+ghost use Rattle.render.specs.Written.{outOf, written};
+ghost use Rattle.trainer.specs.Call.{Call};
+ghost use Rattle.trainer.specs.Answers.{AnswersOf, AnswersCall};
+ghost use Rattle.trainer.specs.Run.{answerLine, RunCall};
+ghost use Rattle.trainer.specs.Parts.{LinesOf, Posed, Found, Answered, Startable, EventsPut, RunPut, Ready, AllPut, Counts, cut};
 
 // The number of bytes written, or why the call was refused.
 pub enum Written {
     Bytes(u64),
     Refused(u64),
 }
+
+pub enum Program {
+    Answers,
+    Run,
+}
+
+// ---- answers
 
 pub fn copy(words: &mut [u64], start: &[u64])
     requires { ⌜ length (now words) ≡ length (now start) ⌝ }
@@ -112,7 +125,7 @@ fn put_answers(
     questions: &[u64],
 ) -> usize
     requires { ⌜ (length (now out) ≡ 16384) × Ready (buffers (now map) (now cr3s) (now start) (now events) (now questions)) ⌝ }
-    ensures { λ r. ⌜ AllAnswered (buffers (now (map .entry)) (now (cr3s .entry)) (now (start .entry)) (now (events .entry)) (now (questions .entry))) (now (out .entry)) r (now (out .exit)) ⌝ }
+    ensures { λ r. ⌜ AllPut AnswersOf (buffers (now (map .entry)) (now (cr3s .entry)) (now (start .entry)) (now (events .entry)) (now (questions .entry))) (now (out .entry)) r (now (out .exit)) ⌝ }
 {
     let n = questions.len() / 3;
     let mut at = 0;
@@ -125,35 +138,153 @@ fn put_answers(
     at
 }
 
+// ---- run
+
+fn put_reply(out: &mut [u8], at: usize, k: usize, a: Answer) -> usize
+    requires { ⌜ (at + 65 ≤ length (now out)) × (k < 256) ⌝ }
+    ensures { λ r. ⌜ (outOf r (now (out .exit)) ≡ written (answerLine (k + 1) a) (outOf at (now (out .entry)))) × (r ≤ at + 46) ⌝ }
+{
+    let index = (k + 1) as u64;
+    render::put_event(out, at, index, shadow::kind_of(a), shadow::value_of(a))
+}
+
+fn put_events(
+    out: &mut [u8],
+    map: &[u64],
+    words: &mut [u64],
+    pool: &mut [u64],
+    records: &mut [u64],
+    slots: &mut [u64],
+    z: Sizes,
+    events: &[u64],
+) -> usize
+    requires { ⌜ (length (now out) ≡ 16384) × (length (now events) ≤ 1024) ⌝ }
+    ensures { λ r. ⌜ EventsPut (machine64 z) (now (map .entry)) (stateOf (now (words .entry)) (shadowOf (now (pool .entry)) (now (records .entry))) (now (slots .entry))) (now (events .entry)) (now (out .entry)) r (now (out .exit)) ⌝ }
+{
+    let n = events.len() / 4;
+    let mut at = 0;
+    let mut k = 0;
+    while k < n {
+        let e = listing::event_at(events, k);
+        let a = shadow::event(map, words, pool, records, slots, z, e);
+        at = put_reply(out, at, k, a);
+        k += 1;
+    }
+    at
+}
+
+// Setup takes every accepted puzzle, so that its answer need not be looked at.
+fn put_machine(
+    out: &mut [u8],
+    map: &[u64],
+    cr3s: &[u64],
+    words: &mut [u64],
+    pool: &mut [u64],
+    records: &mut [u64],
+    slots: &mut [u64],
+    events: &[u64],
+) -> usize
+    requires { ⌜ (length (now out) ≡ 16384) × (length (now events) ≤ 1024) × Startable (now map) (now cr3s) × (length (now pool) ≡ 2048 * length (now cr3s)) × (length (now records) ≡ 8 * length (now cr3s)) × (length (now slots) ≡ 24 * length (now cr3s)) ⌝ }
+    ensures { λ r. ⌜ RunPut (now (map .entry)) (now (cr3s .entry)) (now (words .entry)) (now (events .entry)) (now (out .entry)) r (now (out .exit)) ⌝ }
+{
+    let z = Sizes {
+        frames: map.len() as u64,
+        processors: cr3s.len() as u64,
+        share: 4,
+        base: 1 << 20,
+    };
+    shadow::setup(map, cr3s, pool, records, slots, z);
+    put_events(out, map, words, pool, records, slots, z, events)
+}
+
+// The machine wants exact lengths: four tables with their records, and eight slots, to a processor.
+fn put_share(
+    out: &mut [u8],
+    map: &[u64],
+    cr3s: &[u64],
+    words: &mut [u64],
+    pool: &mut [u64],
+    records: &mut [u64],
+    slots: &mut [u64],
+    events: &[u64],
+) -> usize
+    requires { ⌜ (length (now out) ≡ 16384) × (length (now events) ≤ 1024) × Startable (now map) (now cr3s) × (length (now pool) ≡ 8192) × (length (now records) ≡ 32) × (length (now slots) ≡ 96) ⌝ }
+    ensures { λ r. ⌜ RunPut (now (map .entry)) (now (cr3s .entry)) (now (words .entry)) (now (events .entry)) (now (out .entry)) r (now (out .exit)) ⌝ }
+{
+    let p = cr3s.len();
+    put_machine(
+        out,
+        map,
+        cr3s,
+        words,
+        &mut pool[..2048 * p],
+        &mut records[..8 * p],
+        &mut slots[..24 * p],
+        events,
+    )
+}
+
+// At most four processors.
+fn put_run(out: &mut [u8], map: &[u64], cr3s: &[u64], words: &mut [u64], events: &[u64]) -> usize
+    requires { ⌜ (length (now out) ≡ 16384) × (length (now events) ≤ 1024) × Startable (now map) (now cr3s) ⌝ }
+    ensures { λ r. ⌜ RunPut (now (map .entry)) (now (cr3s .entry)) (now (words .entry)) (now (events .entry)) (now (out .entry)) r (now (out .exit)) ⌝ }
+{
+    let mut pool = [0u64; 8192];
+    let mut records = [0u64; 32];
+    let mut slots = [0u64; 96];
+    put_share(
+        out,
+        map,
+        cr3s,
+        words,
+        &mut pool,
+        &mut records,
+        &mut slots,
+        events,
+    )
+}
+
+// ---- both
+
 // The puzzle stands in front of the buffers.
 fn put_puzzle(
     out: &mut [u8],
     map: &[u64],
     cr3s: &[u64],
-    words: &[u64],
+    words: &mut [u64],
     events: &[u64],
     questions: &[u64],
     g: usize,
     p: usize,
     e: usize,
     q: usize,
+    program: Program,
 ) -> usize
     requires { ⌜ (length (now out) ≡ 16384) × Counts (buffers (now map) (now cr3s) (now words) (now events) (now questions)) g p e q × Ready (cut (buffers (now map) (now cr3s) (now words) (now events) (now questions)) g p e q) ⌝ }
-    ensures { λ r. ⌜ AllAnswered (cut (buffers (now (map .entry)) (now (cr3s .entry)) (now (words .entry)) (now (events .entry)) (now (questions .entry))) g p e q) (now (out .entry)) r (now (out .exit)) ⌝ }
+    ensures { λ r. ⌜ AllPut (LinesOf program) (cut (buffers (now (map .entry)) (now (cr3s .entry)) (now (words .entry)) (now (events .entry)) (now (questions .entry))) g p e q) (now (out .entry)) r (now (out .exit)) ⌝ }
 {
-    put_answers(
-        out,
-        &map[..g],
-        &cr3s[..p],
-        &words[..512 * g],
-        &events[..4 * e],
-        &questions[..3 * q],
-    )
+    match program {
+        Program::Answers => put_answers(
+            out,
+            &map[..g],
+            &cr3s[..p],
+            &words[..512 * g],
+            &events[..4 * e],
+            &questions[..3 * q],
+        ),
+        Program::Run => put_run(
+            out,
+            &map[..g],
+            &cr3s[..p],
+            &mut words[..512 * g],
+            &events[..4 * e],
+        ),
+    }
 }
 
-// The lines of `answers` for a text, or `R number line`.
-pub fn answers(text: &[u8], output: &mut [u8]) -> Written
-    ensures { λ r. ⌜ AnswersCall (now (text .entry)) (now (output .entry)) r (now (output .exit)) ⌝ }
+// The lines of a program for a text, or `R number line`.
+pub fn print(text: &[u8], output: &mut [u8], program: Program) -> Written
+    ensures { λ r. ⌜ Call (LinesOf program) (now (text .entry)) (now (output .entry)) r (now (output .exit)) ⌝ }
 {
     if output.len() != 16384 {
         return Written::Refused(1);
@@ -185,14 +316,27 @@ pub fn answers(text: &[u8], output: &mut [u8]) -> Written
                 output,
                 &map,
                 &cr3s,
-                &words,
+                &mut words,
                 &events,
                 &questions,
                 frames as usize,
                 processors as usize,
                 e as usize,
                 q as usize,
+                program,
             ) as u64,
         ),
     }
+}
+
+pub fn answers(text: &[u8], output: &mut [u8]) -> Written
+    ensures { λ r. ⌜ AnswersCall (now (text .entry)) (now (output .entry)) r (now (output .exit)) ⌝ }
+{
+    print(text, output, Program::Answers)
+}
+
+pub fn run(text: &[u8], output: &mut [u8]) -> Written
+    ensures { λ r. ⌜ RunCall (now (text .entry)) (now (output .entry)) r (now (output .exit)) ⌝ }
+{
+    print(text, output, Program::Run)
 }

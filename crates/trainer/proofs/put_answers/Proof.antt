@@ -6,7 +6,7 @@ use lib.ListN.{length}
 use Rattle.rules.specs.declared.Question.{Question}
 use Rattle.puzzle.specs.Buffers.{buffers}
 use Rattle.render.specs.Written.{outOf, written}
-use Rattle.trainer.specs.Answers.{joined}
+use Rattle.trainer.specs.Call.{joined}
 use Rattle.trainer.specs.Parts.{Posed, Answered}
 use Rattle.trainer.proofs.Turns.{linesOf, answer-more, rendered}
 use Rattle.trainer.proofs.put_answers.Statement.{statement}
@@ -52,7 +52,7 @@ returns c =
     let e : l .k ≡ length (a .questions .now) / 3 = omega (arith, c .loop-test .left) in
     record {
       bytes = joined (length (a .questions .now) / 3) (linesOf b);
-      rendering = rendered b (length (a .questions .now) / 3);
+      lines = rendered b (length (a .questions .now) / 3);
       wrote = l .inv .3 ∙ ap (λ (k : ℕ). written (joined k (linesOf b)) (outOf 0 (a .out .now))) e;
       few = omega (arith, l .inv .2, c .before .before .before .before .before .before .before .before .pre .1 .few);
     }

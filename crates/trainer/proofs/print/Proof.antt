@@ -1,4 +1,4 @@
--- A buffer of another length is refused; else the text is read, and its refusal or its answers are written from the first byte on.
+-- A buffer of another length is refused; else the text is read, and its refusal or the program's lines are written from the first byte on.
 use mathlib.Core.Path.{_≡_, refl, subst, subst⁻¹}
 use mathlib.Core.List.{List, [], _∷_}
 use Prim.Native.Nat.{ℕ, _≤_}
@@ -7,11 +7,11 @@ use borrow.Author.Needs.{needs}
 use Rattle.sections.specs.Sections.{Got, Puzzle}
 use Rattle.puzzle.specs.Buffers.{Buffers, buffers}
 use Rattle.render.specs.Render.{renderRefusal}
-use Rattle.trainer.specs.Answers.{puzzleIn, Prints}
-use Rattle.trainer.specs.Parts.{Ready, AllAnswered}
+use Rattle.trainer.specs.Call.{puzzleIn, Prints}
+use Rattle.trainer.specs.Parts.{LinesOf, Ready, AllPut}
 use Rattle.trainer.proofs.Wholes.{zeros, says, told, took, call-by}
-use Rattle.trainer.proofs.answers.Statement.{statement}
-use Rattle.trainer.proofs.answers.Tie as tie
+use Rattle.trainer.proofs.print.Statement.{statement}
+use Rattle.trainer.proofs.print.Tie as tie
 
 returns : tie.Need-returns
 returns c = record { refused = λ n. (refl, refl); printed = λ e. absurd (c .if1 .taken e) }
@@ -30,21 +30,21 @@ returns-2 c =
     let n = c .before .before .before .before .before .before .number .given .0 in
     let bytes = renderRefusal (n .0) (n .1 .0) in
     let m = told (puzzleIn (a .text .now)) zeros new (says (a .text .now) new (c .before .before .before .before .before .before .number .given .1) (c .before .before .before .before .before .before .before .before .before .before .before .before .before .read .ensures)) in
-    call-by (a .text .now) (a .output .now) (c .before .before .put-line .result) (c .before .before .put-line .last .0) bytes
-    (subst⁻¹ (λ (x : Got Puzzle). Prints x bytes) m refl) (c .before .before .put-line .ensures .0) (omega (arith, c .before .before .put-line .ensures .1)) (c .before .before .before .before .before .before .before .before .before .before .before .before .before .before .before .before .before .before .before .if1 .left)
+    call-by (LinesOf (a .program)) (a .text .now) (a .output .now) (c .before .before .put-line .result) (c .before .before .put-line .last .0) bytes
+    (subst⁻¹ (λ (x : Got Puzzle). Prints (LinesOf (a .program)) x bytes) m refl) (c .before .before .put-line .ensures .0) (omega (arith, c .before .before .put-line .ensures .1)) (c .before .before .before .before .before .before .before .before .before .before .before .before .before .before .before .before .before .before .before .if1 .left)
 
 returns-3 : tie.Need-returns-3
 returns-3 c =
-    let a = c .before .before .before .before .before .before .before .before .before .before .before .before .before .before .before .before .before .before .before .before .before .before .before .before .before .before .args in
-    let l = c .before .before .before .before .before .before .before .before .before .before .before .before .before .before .before .before .before .read .last in
+    let a = c .before .before .before .before .before .before .before .before .before .before .before .before .before .before .before .before .before .before .before .before .before .before .before .before .before .before .before .args in
+    let l = c .before .before .before .before .before .before .before .before .before .before .before .before .before .before .before .before .before .before .read .last in
     let new = buffers (l .1 .0) (l .1 .1 .0) (l .1 .1 .1 .0) (l .1 .1 .1 .1 .0) (l .1 .1 .1 .1 .1 .0) in
-    let t = took (a .text .now) new (says (a .text .now) new (c .before .before .before .before .before .before .before .before .before .before .frames .given .1) (c .before .before .before .before .before .before .before .before .before .before .before .before .before .before .before .before .before .read .ensures)) in
-    let r = subst (λ (b : Buffers). AllAnswered b (a .output .now) (c .before .before .put-puzzle .result) (c .before .before .put-puzzle .last .0)) (t .fronts) (c .before .before .put-puzzle .ensures) in
-    call-by (a .text .now) (a .output .now) (c .before .before .put-puzzle .result) (c .before .before .put-puzzle .last .0) (r .bytes)
-    (subst⁻¹ (λ (x : Got Puzzle). Prints x (r .bytes)) (t .is) (r .rendering)) (r .wrote) (r .few) (c .before .before .before .before .before .before .before .before .before .before .before .before .before .before .before .before .before .before .before .before .before .before .before .if1 .left)
+    let t = took (a .text .now) new (says (a .text .now) new (c .before .before .before .before .before .before .before .before .before .before .before .frames .given .1) (c .before .before .before .before .before .before .before .before .before .before .before .before .before .before .before .before .before .before .read .ensures)) in
+    let r = subst (λ (b : Buffers). AllPut (LinesOf (a .program)) b (a .output .now) (c .before .before .before .put-puzzle .result) (c .before .before .before .put-puzzle .last .0)) (t .fronts) (c .before .before .before .put-puzzle .ensures) in
+    call-by (LinesOf (a .program)) (a .text .now) (a .output .now) (c .before .before .before .put-puzzle .result) (c .before .before .before .put-puzzle .last .0) (r .bytes)
+    (subst⁻¹ (λ (x : Got Puzzle). Prints (LinesOf (a .program)) x (r .bytes)) (t .is) (r .lines)) (r .wrote) (r .few) (c .before .before .before .before .before .before .before .before .before .before .before .before .before .before .before .before .before .before .before .before .before .before .before .before .if1 .left)
 
-pub answers-spec : {M : Type 1} → statement M
-answers-spec =
+pub print-spec : {M : Type 1} → statement M
+print-spec =
     tie.close
     (tie.spec
     returns

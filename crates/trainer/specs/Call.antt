@@ -1,0 +1,48 @@
+-- What `answers` and `run` promise alike: from the bytes of a text to the bytes that are printed.
+use mathlib.Core.Path.{_≡_}
+use mathlib.Core.Bool.{cond}
+use mathlib.Core.List.{List, [], _++_}
+use Prim.Native.Nat.{ℕ, zero, suc, _≤_}
+use lib.Dec.{leb}
+use lib.ListN.{length, drop}
+use Rattle.sections.specs.Sections.{Got, got, refused, Puzzle, puzzleOf}
+use Rattle.puzzle.specs.Buffers.{Buffers, buffers, wordsOf}
+use Rattle.render.specs.Render.{renderRefusal}
+use Rattle.trainer.specs.declared.Written.{Written}
+use Rattle.trainer.specs.declared.Written.the-variants.{Bytes, Refused}
+
+-- f 0, f 1, .., f (n − 1), one behind the other
+unfoldable pub joined : ℕ → (ℕ → List ℕ) → List ℕ
+joined zero f = []
+joined (suc n) f = joined n f ++ f n
+
+-- the lists of a puzzle, with the guest's words at the start
+abbrev pub posed : Puzzle → Buffers
+posed z = buffers (z .map) (z .cr3s) (wordsOf z) (z .events) (z .questions)
+
+-- "Text is refused with 1 (over-long, line 0) first": the programs take 65,536 bytes
+abbrev pub puzzleIn : List ℕ → Got Puzzle
+puzzleIn text = cond (leb (length text) 65536) (puzzleOf text) (refused 1 0)
+
+-- what a program prints of the lists of a puzzle
+abbrev pub Lines : Type 1
+Lines = Buffers → List ℕ → Type 0
+
+module _ (Of : Lines) where
+  -- "on refusal both print `R number line` and nothing else"
+  abbrev pub Prints : Got Puzzle → List ℕ → Type 0
+  Prints (got z at) bytes = Of (posed z) bytes
+  Prints (refused number at) bytes = bytes ≡ renderRefusal number at
+
+  -- the output stands in front of the buffer, and later bytes stay
+  pub record Printed (text before : List ℕ) (r : Written) (after : List ℕ) : Type 0 where
+    pub bytes : List ℕ
+    pub prints : Prints (puzzleIn text) bytes
+    pub fits : length bytes ≤ length before
+    pub counted : r ≡ Bytes (length bytes)
+    pub holds : after ≡ bytes ++ drop (length bytes) before
+
+  -- a buffer of 16,384 bytes takes every output; one of another length is refused with 1
+  pub record Call (text before : List ℕ) (r : Written) (after : List ℕ) : Type 0 where
+    pub refused : (length before ≡ 16384 → ⊥) → (r ≡ Refused 1) × (after ≡ before)
+    pub printed : length before ≡ 16384 → Printed text before r after

@@ -1,0 +1,37 @@
+-- What `run` promises: the line of each event, from the machine that goes through all of them.
+use mathlib.Core.Path.{_≡_}
+use mathlib.Core.List.{List}
+use Prim.Native.Nat.{ℕ, _+_, _/_, _^_}
+use lib.ListN.{length}
+use Rattle.rules.specs.declared.Event.{Event}
+use Rattle.rules.specs.Numbers.{eventsOf}
+use Rattle.tables.specs.declared.Sizes.{Sizes}
+use Rattle.tables.specs.State.{Machine, machine64, State}
+use Rattle.shadow.specs.declared.Answer.{Answer}
+use Rattle.shadow.specs.After.{kindOf, valueOf, started}
+use Rattle.shadow.specs.Runs.{answerOf}
+use Rattle.puzzle.specs.Buffers.{Buffers}
+use Rattle.render.specs.Render.{renderEvent}
+use Rattle.trainer.specs.declared.Written.{Written}
+use Rattle.trainer.specs.Call.{joined, Lines, Call}
+
+-- "The programs take … S = 4"; "Pool base is 2^20."
+abbrev pub sizesOf : List ℕ → List ℕ → Sizes
+sizesOf map cr3s = record { frames = length map; processors = length cr3s; share = 4; base = 2 ^ 20 }
+
+abbrev pub answerLine : ℕ → Answer → List ℕ
+answerLine index a = renderEvent index (kindOf a) (valueOf a)
+
+-- "per event `E index kind value`, the index counting from 1"
+abbrev pub eventLine : Machine → List ℕ → State → List Event → ℕ → List ℕ
+eventLine M map start es k = answerLine (k + 1) (answerOf M map start es k)
+
+-- the machine is set up for the puzzle's guest, and each event meets the state that the ones before left
+abbrev pub RunOf : Lines
+RunOf b bytes =
+    let M = machine64 (sizesOf (b .map) (b .cr3s)) in
+    bytes ≡ joined (length (b .events) / 4) (eventLine M (b .map) (started M (b .cr3s) (b .words)) (eventsOf (b .events)))
+
+-- THE PROMISE OF `run`
+abbrev pub RunCall : List ℕ → List ℕ → Written → List ℕ → Type 0
+RunCall = Call RunOf
