@@ -83,6 +83,8 @@ static void text(const char *puzzle)
            counts[0], counts[1], counts[2], counts[3], counts[4], counts[5], counts[6]);
     flamecurl_answers(bytes, strlen(puzzle), COUNT(output), COUNT(answer));
     printf("answers: refusal %" PRIu64 ", bytes %" PRIu64 "\n%.*s", answer[0], answer[1], (int)answer[1], output);
+    flamecurl_run(bytes, strlen(puzzle), COUNT(output), COUNT(answer));
+    printf("run: refusal %" PRIu64 ", bytes %" PRIu64 "\n%.*s", answer[0], answer[1], (int)answer[1], output);
 }
 
 int main(void)

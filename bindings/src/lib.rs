@@ -250,9 +250,21 @@ pub fn read(
     })
 }
 
+/// The number of bytes that a text's call wrote.
+fn written(answer: [u64; 2]) -> Result<usize, Refusal> {
+    judged(answer[0]).map(|()| answer[1] as usize)
+}
+
 /// What the program `answers` prints for a text, into `TEXT_OUTPUT` bytes: how many were written.
 pub fn answers(text: &[u8], output: &mut [u8]) -> Result<usize, Refusal> {
     let mut answer = [0; 2];
     numbers::answers(text, output, &mut answer);
-    judged(answer[0]).map(|()| answer[1] as usize)
+    written(answer)
+}
+
+/// What the program `run` prints for a text, into `TEXT_OUTPUT` bytes: how many were written.
+pub fn run(text: &[u8], output: &mut [u8]) -> Result<usize, Refusal> {
+    let mut answer = [0; 2];
+    numbers::run(text, output, &mut answer);
+    written(answer)
 }

@@ -90,6 +90,15 @@ extern "C" {
         answer: *mut u64,
         answer_count: usize,
     ) -> u64;
+
+    fn flamecurl_run(
+        text: *const u8,
+        text_count: usize,
+        output: *mut u8,
+        output_count: usize,
+        answer: *mut u64,
+        answer_count: usize,
+    ) -> u64;
 }
 
 #[allow(clippy::too_many_arguments)] // the buffers of the call, each by its name
@@ -223,6 +232,19 @@ pub fn read(
 pub fn answers(text: &[u8], output: &mut [u8], answer: &mut [u64]) -> u64 {
     unsafe {
         flamecurl_answers(
+            text.as_ptr(),
+            text.len(),
+            output.as_mut_ptr(),
+            output.len(),
+            answer.as_mut_ptr(),
+            answer.len(),
+        )
+    }
+}
+
+pub fn run(text: &[u8], output: &mut [u8], answer: &mut [u64]) -> u64 {
+    unsafe {
+        flamecurl_run(
             text.as_ptr(),
             text.len(),
             output.as_mut_ptr(),

@@ -185,6 +185,9 @@ fn a_text() {
     let n = answers(TEXT, &mut output).unwrap();
     assert_eq!(&output[..n], b"Q 0 8 0 2\nA 4 425992\nA 5 430088\n");
     assert_eq!(answers(TEXT, &mut [0; 100]), Err(Refusal::Size));
+    let n = run(TEXT, &mut output).unwrap();
+    assert_eq!(&output[..n], b"E 1 0 0\n");
+    assert_eq!(run(TEXT, &mut [0; 16385]), Err(Refusal::Size));
 }
 
 #[test]

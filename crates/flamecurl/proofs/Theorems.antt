@@ -17,8 +17,10 @@ use Rattle.shadow.proofs.Theorems as shadow
 use Rattle.puzzle.specs.declared.ReadResult.{ReadResult}
 use Rattle.puzzle.specs.Buffers.{Buffers, After, readCall}
 use Rattle.puzzle.specs.Buffers as puzzle
+use Rattle.trainer.specs.Answers.{AnswersOf}
+use Rattle.trainer.specs.Run.{RunOf}
 use Rattle.trainer.proofs.Theorems as trainer
-use Rattle.flamecurl.specs.Exports.{Answered, Exported, ListExport, SetupExport, EventExport, ReadExport, AnswersExport}
+use Rattle.flamecurl.specs.Exports.{Answered, Exported, ListExport, SetupExport, EventExport, ReadExport, PrintExport}
 
 module _ {A B : Type 0} {numbers : A → List ℕ} (Call : A → B → Type 0) (one : (r s : A) (x y : B) → Call r x → Call s y → (r ≡ s) × (x ≡ y)) where
   same-answers : {x y : B} {n m : ℕ} {l k : List ℕ}
@@ -54,8 +56,12 @@ read-unique text before x y answer l k n m =
     (λ (r s : ReadResult) (x y : Buffers) p q. (ap (λ (a : After). a .result) (p ∙ sym q), ap (λ (a : After). a .buffers) (p ∙ sym q)))
 
 pub answers-unique : (text before x y : List ℕ) (answer l k : List ℕ) (n m : ℕ)
-    → AnswersExport text before x answer n l → AnswersExport text before y answer m k → (n ≡ m) × (x ≡ y) × (l ≡ k)
-answers-unique text before x y answer l k n m = same-exports _ (trainer.one-result text before)
+    → PrintExport AnswersOf text before x answer n l → PrintExport AnswersOf text before y answer m k → (n ≡ m) × (x ≡ y) × (l ≡ k)
+answers-unique text before x y answer l k n m = same-exports _ (trainer.one-answers text before)
+
+pub run-unique : (text before x y : List ℕ) (answer l k : List ℕ) (n m : ℕ)
+    → PrintExport RunOf text before x answer n l → PrintExport RunOf text before y answer m k → (n ≡ m) × (x ≡ y) × (l ≡ k)
+run-unique text before x y answer l k n m = same-exports _ (trainer.one-run text before)
 
 pub setup-unique : (z : Sizes) (map cr3s : List ℕ) (before x y : State) (n m : ℕ)
     → SetupExport z map cr3s before n x → SetupExport z map cr3s before m y → (n ≡ m) × (x ≡ y)

@@ -19,7 +19,7 @@ use Rattle.puzzle.specs.Buffers.{Buffers, readCall}
 use Rattle.puzzle.specs.Buffers as puzzle
 use Rattle.trainer.specs.declared.Written.{Written}
 use Rattle.trainer.specs.declared.Written.the-variants.{Bytes, Refused as Unwritten}
-use Rattle.trainer.specs.Answers.{AnswersCall}
+use Rattle.trainer.specs.Call.{Lines, Call}
 
 -- ---- sizes, events and questions go in as plain numbers
 
@@ -55,16 +55,16 @@ writtenNumbers (Unwritten n) = n ∷ 0 ∷ []
 -- ---- what every exported call promises
 
 -- the library's call gave this result; its numbers stand in the buffer, and the first of them is returned
-pub record Answered {A : Type 0} (numbers : A → List ℕ) (Call : A → Type 0) (number : ℕ) (after : List ℕ) : Type 0 where
+pub record Answered {A : Type 0} (numbers : A → List ℕ) (Gave : A → Type 0) (number : ℕ) (after : List ℕ) : Type 0 where
   pub result : A
-  pub call : Call result
+  pub call : Gave result
   pub laid : after ≡ numbers result
   pub first : number ≡ getD (numbers result) 0 0
 
 -- an answer buffer of another length than `size` is refused with 1, and nothing changes
-pub record Exported {A : Type 0} (size : ℕ) (numbers : A → List ℕ) (Call : A → Type 0) (Kept : Type 0) (before : List ℕ) (number : ℕ) (after : List ℕ) : Type 0 where
+pub record Exported {A : Type 0} (size : ℕ) (numbers : A → List ℕ) (Gave : A → Type 0) (Kept : Type 0) (before : List ℕ) (number : ℕ) (after : List ℕ) : Type 0 where
   pub refused : (length before ≡ size → ⊥) → (number ≡ 1) × (after ≡ before) × Kept
-  pub answered : length before ≡ size → Answered numbers Call number after
+  pub answered : length before ≡ size → Answered numbers Gave number after
 
 -- ---- THE PROMISES OF THE C INTERFACE
 
@@ -79,8 +79,9 @@ abbrev pub ReadExport : List ℕ → Buffers → Buffers → List ℕ → ℕ �
 ReadExport text before after =
     Exported 7 readNumbers (λ (r : ReadResult). puzzle.after r after ≡ readCall text before) (after ≡ before)
 
-abbrev pub AnswersExport : List ℕ → List ℕ → List ℕ → List ℕ → ℕ → List ℕ → Type 0
-AnswersExport text before after = Exported 2 writtenNumbers (λ (r : Written). AnswersCall text before r after) (after ≡ before)
+-- `answers` and `run`, by what they print
+abbrev pub PrintExport : Lines → List ℕ → List ℕ → List ℕ → List ℕ → ℕ → List ℕ → Type 0
+PrintExport Of text before after = Exported 2 writtenNumbers (λ (r : Written). Call Of text before r after) (after ≡ before)
 
 -- setup has no kind and no value to tell, so it has no answer buffer
 pub record SetupExport (z : Sizes) (map cr3s : List ℕ) (before : State) (number : ℕ) (after : State) : Type 0 where

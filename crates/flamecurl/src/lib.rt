@@ -6,6 +6,7 @@ use rules::Event;
 use rules::Question;
 use shadow::Answer;
 use tables::Sizes;
+use trainer::Program;
 use trainer::Written;
 ghost use mathlib.Core.Path.{_≡_};
 ghost use mathlib.Core.List.{[]};
@@ -14,7 +15,10 @@ ghost use Rattle.tables.specs.State.{shadowOf, stateOf};
 ghost use Rattle.listing.specs.Call.{asked, lent};
 ghost use Rattle.puzzle.specs.Buffers.{buffers};
 ghost use Rattle.shadow.specs.After as shadow;
-ghost use Rattle.flamecurl.specs.Exports.{sizesOf, eventFrom, questionFrom, listNumbers, eventNumbers, readNumbers, writtenNumbers, ListExport, SetupExport, EventExport, ReadExport, AnswersExport};
+ghost use Rattle.flamecurl.specs.Exports.{sizesOf, eventFrom, questionFrom, listNumbers, eventNumbers, readNumbers, writtenNumbers, ListExport, SetupExport, EventExport, ReadExport, PrintExport};
+ghost use Rattle.trainer.specs.Answers.{AnswersOf};
+ghost use Rattle.trainer.specs.Run.{RunOf};
+ghost use Rattle.trainer.specs.Parts.{LinesOf};
 
 // ---- answers as numbers; the first is returned
 
@@ -237,14 +241,28 @@ pub extern "C" fn flamecurl_read(
     put_read(answer, r)
 }
 
-// What the program `answers` prints for a text. The answer: refusal, bytes written.
-#[no_mangle]
-pub extern "C" fn flamecurl_answers(text: &[u8], output: &mut [u8], answer: &mut [u64]) -> u64
-    ensures { λ n. ⌜ AnswersExport (now (text .entry)) (now (output .entry)) (now (output .exit)) (now (answer .entry)) n (now (answer .exit)) ⌝ }
+fn print(text: &[u8], output: &mut [u8], answer: &mut [u64], program: Program) -> u64
+    ensures { λ n. ⌜ PrintExport (LinesOf program) (now (text .entry)) (now (output .entry)) (now (output .exit)) (now (answer .entry)) n (now (answer .exit)) ⌝ }
 {
     if answer.len() != 2 {
         return 1;
     }
-    let r = trainer::answers(text, output);
+    let r = trainer::print(text, output, program);
     put_written(answer, r)
+}
+
+// What the program `answers` prints for a text. The answer: refusal, bytes written.
+#[no_mangle]
+pub extern "C" fn flamecurl_answers(text: &[u8], output: &mut [u8], answer: &mut [u64]) -> u64
+    ensures { λ n. ⌜ PrintExport AnswersOf (now (text .entry)) (now (output .entry)) (now (output .exit)) (now (answer .entry)) n (now (answer .exit)) ⌝ }
+{
+    print(text, output, answer, Program::Answers)
+}
+
+// What the program `run` prints for a text. The answer: refusal, bytes written.
+#[no_mangle]
+pub extern "C" fn flamecurl_run(text: &[u8], output: &mut [u8], answer: &mut [u64]) -> u64
+    ensures { λ n. ⌜ PrintExport RunOf (now (text .entry)) (now (output .entry)) (now (output .exit)) (now (answer .entry)) n (now (answer .exit)) ⌝ }
+{
+    print(text, output, answer, Program::Run)
 }

@@ -53,9 +53,13 @@ pub fn put_to_library(case: &Case) -> After {
         (Call::Read, [text, map, cr3s, words, events, questions, answer]) => {
             proved::read(&bytes(text), map, cr3s, words, events, questions, answer)
         }
-        (Call::Answers, [text, output, answer]) => {
+        (call, [text, output, answer]) => {
             let mut out = bytes(output);
-            let refusal = proved::answers(&bytes(text), &mut out, answer);
+            let program = match call {
+                Call::Answers => proved::answers,
+                _ => proved::run,
+            };
+            let refusal = program(&bytes(text), &mut out, answer);
             *output = numbers(&out);
             refusal
         }
@@ -80,7 +84,7 @@ pub fn put_to_second(case: &Case) -> After {
         buffers: case.buffers.clone(),
     };
     let answer_length = match case.call {
-        Call::List | Call::Answers => 2,
+        Call::List | Call::Answers | Call::Run => 2,
         Call::Event => 3,
         Call::Read => 7,
         Call::Setup => 0,
@@ -94,7 +98,8 @@ pub fn put_to_second(case: &Case) -> After {
         Call::Setup => second_setup(case, &mut after.buffers),
         Call::Event => second_event(case, &mut after.buffers),
         Call::Read => second_read(case, &mut after.buffers),
-        Call::Answers => second_answers(case, &mut after.buffers),
+        Call::Answers => second_program(case, &mut after.buffers, report::answers),
+        Call::Run => second_program(case, &mut after.buffers, report::run),
     };
     after.refusal = answer[0];
     if case.call != Call::Setup {
@@ -199,12 +204,12 @@ fn second_read(case: &Case, buffers: &mut [Vec<u64>]) -> Vec<u64> {
     [0, 0].into_iter().chain(counts.map(|n| n as u64)).collect()
 }
 
-fn second_answers(case: &Case, buffers: &mut [Vec<u64>]) -> Vec<u64> {
+fn second_program(case: &Case, buffers: &mut [Vec<u64>], program: fn(&[u8]) -> String) -> Vec<u64> {
     let output = &mut buffers[1];
     if output.len() != 16384 {
         return vec![1, 0];
     }
-    let printed = report::answers(&bytes(case.buffer("text")));
+    let printed = program(&bytes(case.buffer("text")));
     lay(output, printed.bytes().map(u64::from));
     vec![0, printed.len() as u64]
 }

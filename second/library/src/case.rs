@@ -10,6 +10,7 @@ pub enum Call {
     Event,
     Read,
     Answers,
+    Run,
 }
 
 pub const MAP: usize = 0;
@@ -32,7 +33,7 @@ impl Call {
                 "questions",
                 "answer",
             ],
-            Call::Answers => &["text", "output", "answer"],
+            Call::Answers | Call::Run => &["text", "output", "answer"],
         }
     }
 
@@ -50,7 +51,7 @@ impl Call {
                 "a",
                 "b",
             ],
-            Call::Read | Call::Answers => &[],
+            Call::Read | Call::Answers | Call::Run => &[],
         }
     }
 }
@@ -94,7 +95,7 @@ pub fn shrink(case: &Case, differs: &mut dyn FnMut(&Case) -> bool) -> Case {
     let mut case = case.clone();
     for (name, width) in [("events", 4), ("text", 1)] {
         let of_this_call = case.call == Call::List && name == "events"
-            || matches!(case.call, Call::Read | Call::Answers) && name == "text";
+            || case.call.buffers().contains(&"text") && name == "text";
         if of_this_call {
             let rows: Vec<Vec<u64>> = case
                 .buffer(name)

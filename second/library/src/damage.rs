@@ -11,7 +11,7 @@ pub fn damage(rng: &mut Prng, case: &mut Case) {
             Call::List => damage_list(rng, case),
             Call::Setup => damage_setup(rng, case),
             Call::Event => damage_event(rng, case),
-            Call::Read | Call::Answers => damage_length(rng, case),
+            Call::Read | Call::Answers | Call::Run => damage_length(rng, case),
         }
     }
 }

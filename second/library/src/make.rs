@@ -15,12 +15,13 @@ pub fn case(seed: u64, number: u64) -> Case {
     let mut rng = Prng::new(seed ^ number.wrapping_mul(0xa24b_aed4_963e_e407));
     rng.draw();
     let rng = &mut rng;
-    let mut case = match rng.weighted(&[30, 8, 44, 10, 8]) {
+    let mut case = match rng.weighted(&[29, 8, 43, 9, 6, 5]) {
         0 => list(rng),
         1 => setup(rng),
         2 => event(rng),
         3 => read(rng),
-        _ => answers(rng),
+        4 => program(rng, Call::Answers),
+        _ => program(rng, Call::Run),
     };
     if rng.percent(35) {
         damage::damage(rng, &mut case);
@@ -296,9 +297,9 @@ fn read(rng: &mut Prng) -> Case {
     }
 }
 
-fn answers(rng: &mut Prng) -> Case {
+fn program(rng: &mut Prng, call: Call) -> Case {
     Case {
-        call: Call::Answers,
+        call,
         numbers: Vec::new(),
         buffers: vec![text(rng), noise(rng, 16384, 256), noise(rng, 2, u64::MAX)],
     }
