@@ -3,13 +3,14 @@
 //! so it uses other algorithms wherever it can (sets and moments instead of a
 //! byte table, a tree of shadow tables instead of a flat pool).
 //!
-//! Reading order: rules, puzzle, lists, machine, flat, report, gen, shrink.
+//! Reading order: rules, puzzle, lists, machine, flat, report, gen, shrink; quick for speed.
 
 pub mod flat;
 pub mod gen;
 pub mod lists;
 pub mod machine;
 pub mod puzzle;
+pub mod quick;
 pub mod report;
 pub mod rules;
 pub mod shrink;

@@ -300,7 +300,7 @@ pub fn list(
     }
 }
 
-fn list_sizes_hold(sizes: ListSizes, lengths: [usize; 6]) -> bool {
+pub fn list_sizes_hold(sizes: ListSizes, lengths: [usize; 6]) -> bool {
     let ListSizes {
         guest_frames,
         processors,

@@ -29,7 +29,7 @@ pub enum Program {
 
 // ---- answers
 
-fn copy(words: &mut [u64], start: &[u64])
+pub fn copy(words: &mut [u64], start: &[u64])
     requires { ⌜ length (now words) ≡ length (now start) ⌝ }
     ensures { λ _. ⌜ now (words .exit) ≡ now (start .entry) ⌝ }
 {
