@@ -69,7 +69,7 @@ module _ (z : Sizes) (map : List ℕ) (s : State) (e : Event) where
           triples = x .triples;
         }
 
-    taken : after (machine64 z) map s e ≡ moved (machine64 z) map (e .proc) (decode e) s
+    pub taken : after (machine64 z) map s e ≡ moved (machine64 z) map (e .proc) (decode e) s
     unfolding after
     taken = simp (eq-eqb (callRefusal (machine64 z) map s e) 0 ok)
 

@@ -11,3 +11,4 @@ pub mod Runs
 pub mod Sound
 pub mod Between
 pub mod Theorems
+pub mod Known

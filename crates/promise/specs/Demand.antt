@@ -22,7 +22,7 @@ use Rattle.tables.specs.declared.Sizes.{Sizes}
 use Rattle.tables.specs.State.{Machine, machine64, State, stateOf, slotCount, emptied}
 use Rattle.shadow.specs.declared.Answer.{Answer}
 use Rattle.shadow.specs.declared.Answer.the-variants.{Address, Fault, Again, Refused}
-use Rattle.shadow.specs.After.{valueAt, after, started, setupRefusal}
+use Rattle.shadow.specs.After.{Result, valueAt, after, started, setupRefusal}
 
 -- what a machine is set up with
 pub record Fresh : Type 0 where
@@ -66,16 +66,20 @@ abbrev pub mayStandBetween : ℕ → Event → Bool
 mayStandBetween p e = not (isBy p e) || (isStore e || (isBegin e || (isExtend e || isDrop e)))
 
 module _ (F : Fresh) (r : Run) where
+  -- what the machine does with event k + 1
+  abbrev pub does : ℕ → State → Result
+  does k s = after (machineOf F) (F .map) s (eventAt (r .events) k)
+
   -- the state at moment k, and after the losses of that moment
   unfoldable pub stateAt : ℕ → State
   stateAt zero = begun F
-  stateAt (suc k) = after (machineOf F) (F .map) (losing (machineOf F) (r .lost k) (stateAt k)) (eventAt (r .events) k) .state
+  stateAt (suc k) = does k (losing (machineOf F) (r .lost k) (stateAt k)) .state
 
   abbrev pub before : ℕ → State
   before k = losing (machineOf F) (r .lost k) (stateAt k)
 
   abbrev pub answerAt : ℕ → Answer
-  answerAt k = after (machineOf F) (F .map) (before k) (eventAt (r .events) k) .answer
+  answerAt k = does k (before k) .answer
 
   -- event k + 1 as a question
   abbrev pub questionAt : ℕ → Question

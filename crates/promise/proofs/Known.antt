@@ -1,0 +1,149 @@
+-- Document 01's own run meets the hypotheses of demand 3, and its answers are computed: both branches are there.
+use mathlib.Core.Path.{_≡_, refl, sym, ap, ap₂, _∙_}
+use mathlib.Core.Bool.{Bool, true, false, _&&_}
+use mathlib.Core.List.{List, [], _∷_}
+use mathlib.Core.Logic.{_⊎_, inl, inr}
+use Prim.Native.Nat.{ℕ, zero, suc, _*_, _≤_, _<_}
+use native.Mathlib.Omega.{arith}
+use lib.Dec.{eqb, ltb}
+use lib.ListN.{length, getD}
+use borrow.Author.Tests.{eqb-true, ltb-true}
+use Rattle.paging.specs.Numbers.{all, each, tab, firstFrom, sum}
+use Rattle.paging.proofs.Numbers.{all-at, tab-at}
+use Rattle.rules.specs.declared.Outcome.{Outcome}
+use Rattle.rules.specs.Refusal.{refusal}
+use Rattle.rules.specs.History.{Fit, eventAt, eventRefusal}
+use Rattle.tables.specs.State.{State, machine64, named, descend}
+use Rattle.shadow.specs.declared.Answer.{Answer}
+use Rattle.shadow.specs.declared.Answer.the-variants.{Done, Address, Again}
+use Rattle.paging.specs.Frame.{mapFits, cr3sFit}
+use Rattle.paging.proofs.Tests.{both}
+use Rattle.paging.specs.Layout.{get, put, index, pageOf, frameOf, rightsOf, compose, isPresent, mark}
+use Rattle.paging.specs.Walk.{meet, step}
+use Rattle.paging.specs.Request.{requestOf, enough}
+use Rattle.tables.specs.Steps.{servingSlot, flush, flushed, emptySlots, walkFrom, leafOf, freeCount, taken, settle, build, freeTable, emptyShare}
+use Rattle.shadow.specs.After.{Result, decode, moved, dirtied, leafCleared, afterInvlpg, fill, afterMiss, afterAccess, rangesFit, lengthsFit, poolFits, inPool, framesFit, rooted, setupRefusal}
+use Rattle.keeps.proofs.Events as events
+use Rattle.promise.specs.Demand as D
+use Rattle.promise.specs.Demand.{Fresh, Run, machineOf, guestOf, losing, does, stateAt, before, answerAt, Says, place, code, Settles, SettlesInTwo}
+use Rattle.promise.specs.Known.{KnownRun, runOf, stored, narrowed}
+use Rattle.promise.proofs.Runs.{accepted}
+use Rattle.promise.proofs.Theorems.{demand-three}
+
+tab-same : (n : ℕ) (f g : ℕ → Answer) → ((k : ℕ) → k < n → f k ≡ g k) → tab n f ≡ tab n g
+unfolding tab
+tab-same zero f g same = refl
+tab-same (suc n) f g same = ap₂ _∷_ (same 0 (omega arith)) (tab-same n (λ k. f (suc k)) (λ k. g (suc k)) (λ k h. same (suc k) (omega arith)))
+
+-- ---- the hypotheses, as tests
+
+module _ (n : KnownRun) where
+  abbrev F : Fresh
+  F = n .machine
+
+  unfoldable pub fits? : Bool
+  fits? =
+      eqb (setupRefusal (machineOf F) (F .map) (F .cr3s) (D.begun F)) 0
+      && eqb (length (F .words)) (512 * F .sizes .frames)
+      && all (F .sizes .processors) (λ p. ltb (getD (F .cr3s) p 0) (F .sizes .frames))
+      && all (length (n .events)) (λ k. eqb (eventRefusal (guestOf F) (eventAt (n .events) k)) 0)
+
+  -- the run without its tests, which every event passes
+  unfoldable pub quickAt : ℕ → State
+  quickAt zero = D.begun F
+  quickAt (suc k) = moved (machineOf F) (F .map) (eventAt (n .events) k .proc) (decode (eventAt (n .events) k)) (losing (machineOf F) (λ p j. false) (quickAt k)) .state
+
+  abbrev pub quickAnswer : ℕ → Answer
+  quickAnswer k = moved (machineOf F) (F .map) (eventAt (n .events) k .proc) (decode (eventAt (n .events) k)) (losing (machineOf F) (λ p j. false) (quickAt k)) .answer
+
+  module _ (ok : fits? ≡ true) where
+    pub known-sized : D.Sized F
+    unfolding fits?
+    known-sized =
+        let a = both (eqb (setupRefusal (machineOf F) (F .map) (F .cr3s) (D.begun F)) 0 && eqb (length (F .words)) (512 * F .sizes .frames)) _ (both _ _ ok .0) .0 in
+        let b = both (eqb (setupRefusal (machineOf F) (F .map) (F .cr3s) (D.begun F)) 0) (eqb (length (F .words)) (512 * F .sizes .frames)) a in
+        record { setup = eqb-true _ 0 (b .0); words = eqb-true _ _ (b .1) }
+
+    pub known-fits : Fit (guestOf F) (runOf n .events)
+    unfolding fits?
+    known-fits =
+        let a = both (eqb (setupRefusal (machineOf F) (F .map) (F .cr3s) (D.begun F)) 0 && eqb (length (F .words)) (512 * F .sizes .frames) && all (F .sizes .processors) (λ p. ltb (getD (F .cr3s) p 0) (F .sizes .frames)))
+        (all (length (n .events)) (λ k. eqb (eventRefusal (guestOf F) (eventAt (n .events) k)) 0)) ok in
+        record {
+          starts = λ p h. ltb-true _ _ (all-at (λ p. ltb (getD (F .cr3s) p 0) (F .sizes .frames)) (F .sizes .processors) (both (eqb (setupRefusal (machineOf F) (F .map) (F .cr3s) (D.begun F)) 0 && eqb (length (F .words)) (512 * F .sizes .frames)) _ (a .0) .1) p h);
+          events = λ k h. eqb-true _ 0 (all-at (λ k. eqb (eventRefusal (guestOf F) (eventAt (n .events) k)) 0) (length (n .events)) (a .1) k h);
+        }
+
+    quick-state : (k : ℕ) → k ≤ length (n .events) → stateAt F (runOf n) k ≡ quickAt k
+    unfolding stateAt quickAt
+    quick-state zero h = refl
+    quick-state (suc k) h =
+        ap (λ (x : Result). x .state) (events.taken (F .sizes) (F .map) (before F (runOf n) k) (eventAt (n .events) k) (accepted F known-sized (runOf n) known-fits k (omega arith)))
+        ∙ ap (λ (s : State). moved (machineOf F) (F .map) (eventAt (n .events) k .proc) (decode (eventAt (n .events) k)) (losing (machineOf F) (λ p j. false) s) .state) (quick-state k (omega arith))
+
+    quick-answer : (k : ℕ) → k < length (n .events) → answerAt F (runOf n) k ≡ quickAnswer k
+    quick-answer k h =
+        ap (λ (x : Result). x .answer) (events.taken (F .sizes) (F .map) (before F (runOf n) k) (eventAt (n .events) k) (accepted F known-sized (runOf n) known-fits k h))
+        ∙ ap (λ (s : State). moved (machineOf F) (F .map) (eventAt (n .events) k .proc) (decode (eventAt (n .events) k)) (losing (machineOf F) (λ p j. false) s) .answer) (quick-state k (omega arith))
+
+    -- A KNOWN RUN ANSWERS WHAT ITS TABLE SAYS
+    pub known-answers : tab (length (n .events)) quickAnswer ≡ n .answers → tab (length (n .events)) (answerAt F (runOf n)) ≡ n .answers
+    known-answers e = tab-same (length (n .events)) (answerAt F (runOf n)) quickAnswer quick-answer ∙ e
+
+stored-fits : fits? stored ≡ true
+unfolding fits? stored setupRefusal refusal eventRefusal all rangesFit lengthsFit framesFit poolFits inPool mapFits cr3sFit rooted each
+stored-fits = refl
+
+narrowed-fits : fits? narrowed ≡ true
+unfolding fits? narrowed setupRefusal refusal eventRefusal all rangesFit lengthsFit framesFit poolFits inPool mapFits cr3sFit rooted each
+narrowed-fits = refl
+
+stored-quick : tab (length (stored .events)) (quickAnswer stored) ≡ stored .answers
+unfolding tab stored quickAt moved losing each afterAccess afterMiss afterInvlpg fill settle build named get put index pageOf frameOf rightsOf compose isPresent meet descend servingSlot firstFrom flush flushed walkFrom step requestOf enough dirtied leafOf leafCleared freeCount taken sum mark rooted
+stored-quick = refl
+
+narrowed-quick : tab (length (narrowed .events)) (quickAnswer narrowed) ≡ narrowed .answers
+unfolding tab narrowed quickAt moved losing each afterAccess afterMiss afterInvlpg fill settle build freeTable named get put index pageOf frameOf rightsOf compose isPresent meet descend servingSlot firstFrom flush flushed walkFrom step requestOf enough dirtied leafOf leafCleared freeCount taken sum mark rooted
+narrowed-quick = refl
+
+-- THE KNOWN RUNS
+pub stored-answers : tab (length (stored .events)) (answerAt (stored .machine) (runOf stored)) ≡ stored .answers
+stored-answers = known-answers stored stored-fits stored-quick
+
+pub narrowed-answers : tab (length (narrowed .events)) (answerAt (narrowed .machine) (runOf narrowed)) ≡ narrowed .answers
+narrowed-answers = known-answers narrowed narrowed-fits narrowed-quick
+
+-- ---- BOTH BRANCHES OF DEMAND 3: the first access is to be put again and settles then, the fourth event settles at once
+
+answer : (k : ℕ) → k < 7 → answerAt (stored .machine) (runOf stored) k ≡ getD (stored .answers) k Done
+unfolding stored
+answer k h = sym (tab-at 7 (answerAt (stored .machine) (runOf stored)) k Done h) ∙ ap (λ (l : List Answer). getD l k Done) stored-answers
+
+first-again : answerAt (stored .machine) (runOf stored) 0 ≡ Again
+unfolding stored
+first-again = answer 0 (omega arith)
+
+fourth-address : answerAt (stored .machine) (runOf stored) 3 ≡ Address 425992
+unfolding stored
+fourth-address = answer 3 (omega arith)
+
+-- "again" says no outcome
+no-outcome : {F : Fresh} {r : Run} {a : ℕ} {x : Answer} {o : Outcome} → Says F r a x o → x ≡ Again → ⊥
+no-outcome (place inside) e = let n : _≡_ {A = ℕ} 0 1 = cc in omega arith
+no-outcome code e = let n : _≡_ {A = ℕ} 0 1 = cc in omega arith
+
+pub settles-then : Settles (stored .machine) (runOf stored) 1
+unfolding stored
+settles-then = go (demand-three (stored .machine) (known-sized stored stored-fits) (runOf stored) (known-fits stored stored-fits) 0 (omega arith) tt)
+  where
+    go : SettlesInTwo (stored .machine) (runOf stored) 0 → Settles (stored .machine) (runOf stored) 1
+    go (inl s) = absurd (no-outcome (s .says) first-again)
+    go (inr t) = t .1 1 (omega arith) (omega arith) refl (λ j lo hi. absurd (omega arith))
+
+pub settles-at-once : Settles (stored .machine) (runOf stored) 3
+unfolding stored
+settles-at-once = go (demand-three (stored .machine) (known-sized stored stored-fits) (runOf stored) (known-fits stored stored-fits) 3 (omega arith) tt)
+  where
+    go : SettlesInTwo (stored .machine) (runOf stored) 3 → Settles (stored .machine) (runOf stored) 3
+    go (inl s) = s
+    go (inr t) = let q : Again ≡ Address 425992 = sym (t .0) ∙ fourth-address in let n : _≡_ {A = ℕ} 0 1 = cc in absurd (omega arith)
