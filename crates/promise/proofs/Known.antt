@@ -8,25 +8,22 @@ use native.Mathlib.Omega.{arith}
 use lib.Dec.{eqb, ltb}
 use lib.ListN.{length, getD}
 use borrow.Author.Tests.{eqb-true, ltb-true}
-use Rattle.paging.specs.Numbers.{all, each, tab, firstFrom, sum}
+use Rattle.paging.specs.Numbers.{all, each, tab}
 use Rattle.paging.proofs.Numbers.{all-at, tab-at}
 use Rattle.rules.specs.declared.Outcome.{Outcome}
 use Rattle.rules.specs.Refusal.{refusal}
 use Rattle.rules.specs.History.{Fit, eventAt, eventRefusal}
-use Rattle.tables.specs.State.{State, machine64, named, descend}
+use Rattle.tables.specs.State.{State}
 use Rattle.shadow.specs.declared.Answer.{Answer}
 use Rattle.shadow.specs.declared.Answer.the-variants.{Done, Address, Again}
 use Rattle.paging.specs.Frame.{mapFits, cr3sFit}
 use Rattle.paging.proofs.Tests.{both}
-use Rattle.paging.specs.Layout.{get, put, index, pageOf, frameOf, rightsOf, compose, isPresent, mark}
-use Rattle.paging.specs.Walk.{meet, step}
-use Rattle.paging.specs.Request.{requestOf, enough}
-use Rattle.tables.specs.Steps.{servingSlot, flush, flushed, emptySlots, walkFrom, leafOf, freeCount, taken, settle, build, freeTable, emptyShare}
-use Rattle.shadow.specs.After.{Result, decode, moved, dirtied, leafCleared, afterInvlpg, fill, afterMiss, afterAccess, rangesFit, lengthsFit, poolFits, inPool, framesFit, rooted, setupRefusal}
+use Rattle.shadow.specs.After.{Result, rangesFit, lengthsFit, poolFits, inPool, framesFit, rooted, setupRefusal}
 use Rattle.keeps.proofs.Events as events
 use Rattle.promise.specs.Demand as D
 use Rattle.promise.specs.Demand.{Fresh, Run, machineOf, guestOf, losing, does, stateAt, before, answerAt, Says, place, code, Settles, SettlesInTwo}
 use Rattle.promise.specs.Known.{KnownRun, runOf, stored, narrowed}
+use Rattle.promise.proofs.Quick.{quickly, quickAt, quickAnswer, stored-quick, narrowed-quick}
 use Rattle.promise.proofs.Runs.{accepted}
 use Rattle.promise.proofs.Theorems.{demand-three}
 
@@ -48,14 +45,6 @@ module _ (n : KnownRun) where
       && all (F .sizes .processors) (λ p. ltb (getD (F .cr3s) p 0) (F .sizes .frames))
       && all (length (n .events)) (λ k. eqb (eventRefusal (guestOf F) (eventAt (n .events) k)) 0)
 
-  -- the run without its tests, which every event passes
-  unfoldable pub quickAt : ℕ → State
-  quickAt zero = D.begun F
-  quickAt (suc k) = moved (machineOf F) (F .map) (eventAt (n .events) k .proc) (decode (eventAt (n .events) k)) (losing (machineOf F) (λ p j. false) (quickAt k)) .state
-
-  abbrev pub quickAnswer : ℕ → Answer
-  quickAnswer k = moved (machineOf F) (F .map) (eventAt (n .events) k .proc) (decode (eventAt (n .events) k)) (losing (machineOf F) (λ p j. false) (quickAt k)) .answer
-
   module _ (ok : fits? ≡ true) where
     pub known-sized : D.Sized F
     unfolding fits?
@@ -74,21 +63,21 @@ module _ (n : KnownRun) where
           events = λ k h. eqb-true _ 0 (all-at (λ k. eqb (eventRefusal (guestOf F) (eventAt (n .events) k)) 0) (length (n .events)) (a .1) k h);
         }
 
-    quick-state : (k : ℕ) → k ≤ length (n .events) → stateAt F (runOf n) k ≡ quickAt k
+    quick-state : (k : ℕ) → k ≤ length (n .events) → stateAt F (runOf n) k ≡ quickAt n k
     unfolding stateAt quickAt
     quick-state zero h = refl
     quick-state (suc k) h =
         ap (λ (x : Result). x .state) (events.taken (F .sizes) (F .map) (before F (runOf n) k) (eventAt (n .events) k) (accepted F known-sized (runOf n) known-fits k (omega arith)))
-        ∙ ap (λ (s : State). moved (machineOf F) (F .map) (eventAt (n .events) k .proc) (decode (eventAt (n .events) k)) (losing (machineOf F) (λ p j. false) s) .state) (quick-state k (omega arith))
+        ∙ ap (λ (s : State). quickly n k (losing (machineOf F) (λ p j. false) s) .state) (quick-state k (omega arith))
 
-    quick-answer : (k : ℕ) → k < length (n .events) → answerAt F (runOf n) k ≡ quickAnswer k
+    quick-answer : (k : ℕ) → k < length (n .events) → answerAt F (runOf n) k ≡ quickAnswer n k
     quick-answer k h =
         ap (λ (x : Result). x .answer) (events.taken (F .sizes) (F .map) (before F (runOf n) k) (eventAt (n .events) k) (accepted F known-sized (runOf n) known-fits k h))
-        ∙ ap (λ (s : State). moved (machineOf F) (F .map) (eventAt (n .events) k .proc) (decode (eventAt (n .events) k)) (losing (machineOf F) (λ p j. false) s) .answer) (quick-state k (omega arith))
+        ∙ ap (λ (s : State). quickly n k (losing (machineOf F) (λ p j. false) s) .answer) (quick-state k (omega arith))
 
     -- A KNOWN RUN ANSWERS WHAT ITS TABLE SAYS
-    pub known-answers : tab (length (n .events)) quickAnswer ≡ n .answers → tab (length (n .events)) (answerAt F (runOf n)) ≡ n .answers
-    known-answers e = tab-same (length (n .events)) (answerAt F (runOf n)) quickAnswer quick-answer ∙ e
+    pub known-answers : tab (length (n .events)) (quickAnswer n) ≡ n .answers → tab (length (n .events)) (answerAt F (runOf n)) ≡ n .answers
+    known-answers e = tab-same (length (n .events)) (answerAt F (runOf n)) (quickAnswer n) quick-answer ∙ e
 
 stored-fits : fits? stored ≡ true
 unfolding fits? stored setupRefusal refusal eventRefusal all rangesFit lengthsFit framesFit poolFits inPool mapFits cr3sFit rooted each
@@ -97,14 +86,6 @@ stored-fits = refl
 narrowed-fits : fits? narrowed ≡ true
 unfolding fits? narrowed setupRefusal refusal eventRefusal all rangesFit lengthsFit framesFit poolFits inPool mapFits cr3sFit rooted each
 narrowed-fits = refl
-
-stored-quick : tab (length (stored .events)) (quickAnswer stored) ≡ stored .answers
-unfolding tab stored quickAt moved losing each afterAccess afterMiss afterInvlpg fill settle build named get put index pageOf frameOf rightsOf compose isPresent meet descend servingSlot firstFrom flush flushed walkFrom step requestOf enough dirtied leafOf leafCleared freeCount taken sum mark rooted
-stored-quick = refl
-
-narrowed-quick : tab (length (narrowed .events)) (quickAnswer narrowed) ≡ narrowed .answers
-unfolding tab narrowed quickAt moved losing each afterAccess afterMiss afterInvlpg fill settle build freeTable named get put index pageOf frameOf rightsOf compose isPresent meet descend servingSlot firstFrom flush flushed walkFrom step requestOf enough dirtied leafOf leafCleared freeCount taken sum mark rooted
-narrowed-quick = refl
 
 -- THE KNOWN RUNS
 pub stored-answers : tab (length (stored .events)) (answerAt (stored .machine) (runOf stored)) ≡ stored .answers

@@ -1,3 +1,4 @@
+pub mod Quick
 pub mod GuestWalks
 pub mod Settles
 pub mod Begun

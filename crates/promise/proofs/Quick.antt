@@ -1,0 +1,40 @@
+-- The known runs, computed: each event by what it does, without the tests that it passes.
+use mathlib.Core.Path.{_≡_, refl}
+use mathlib.Core.Bool.{false}
+use Prim.Native.Nat.{ℕ, zero, suc}
+use lib.ListN.{length}
+use Rattle.paging.specs.Numbers.{each, tab, firstFrom, sum}
+use Rattle.paging.specs.Layout.{get, put, index, pageOf, frameOf, rightsOf, compose, isPresent, mark}
+use Rattle.paging.specs.Walk.{meet, step}
+use Rattle.paging.specs.Request.{requestOf, enough}
+use Rattle.rules.specs.History.{eventAt}
+use Rattle.tables.specs.State.{State, named, descend}
+use Rattle.tables.specs.Steps.{servingSlot, flush, flushed, walkFrom, leafOf, freeCount, taken, settle, build, freeTable}
+use Rattle.shadow.specs.declared.Answer.{Answer}
+use Rattle.shadow.specs.After.{Result, decode, moved, dirtied, leafCleared, afterInvlpg, fill, afterMiss, afterAccess, rooted}
+use Rattle.promise.specs.Demand as D
+use Rattle.promise.specs.Demand.{Fresh, machineOf, losing}
+use Rattle.promise.specs.Known.{KnownRun, stored, narrowed}
+
+module _ (n : KnownRun) where
+  abbrev F : Fresh
+  F = n .machine
+
+  -- what an accepted event does
+  abbrev pub quickly : ℕ → State → Result
+  quickly k s = moved (machineOf F) (F .map) (eventAt (n .events) k .proc) (decode (eventAt (n .events) k)) s
+
+  unfoldable pub quickAt : ℕ → State
+  quickAt zero = D.begun F
+  quickAt (suc k) = quickly k (losing (machineOf F) (λ p j. false) (quickAt k)) .state
+
+  abbrev pub quickAnswer : ℕ → Answer
+  quickAnswer k = quickly k (losing (machineOf F) (λ p j. false) (quickAt k)) .answer
+
+pub stored-quick : tab (length (stored .events)) (quickAnswer stored) ≡ stored .answers
+unfolding tab stored quickAt moved losing each afterAccess afterMiss afterInvlpg fill settle build named get put index pageOf frameOf rightsOf compose isPresent meet descend servingSlot firstFrom flush flushed walkFrom step requestOf enough dirtied leafOf leafCleared freeCount taken sum mark rooted
+stored-quick = refl
+
+pub narrowed-quick : tab (length (narrowed .events)) (quickAnswer narrowed) ≡ narrowed .answers
+unfolding tab narrowed quickAt moved losing each afterAccess afterMiss afterInvlpg fill settle build freeTable named get put index pageOf frameOf rightsOf compose isPresent meet descend servingSlot firstFrom flush flushed walkFrom step requestOf enough dirtied leafOf leafCleared freeCount taken sum mark rooted
+narrowed-quick = refl
