@@ -31,6 +31,23 @@ fn begins(old: &[u64], xs: &[u64]) -> bool {
     true
 }
 
+fn shadow_kept(
+    old_pool: &[u64],
+    pool: &[u64],
+    old_records: &[u64],
+    records: &[u64],
+    old_slots: &[u64],
+    slots: &[u64],
+) -> bool {
+    if !begins(old_pool, pool) {
+        return false;
+    }
+    if !begins(old_records, records) {
+        return false;
+    }
+    begins(old_slots, slots)
+}
+
 fn sizes_of(given: &[u64]) -> Sizes {
     Sizes {
         frames: text::at(given, 0),
@@ -66,10 +83,8 @@ fn put_setup(
     copy(&mut old_records, records);
     copy(&mut old_slots, slots);
     let r = shadow::setup(map, cr3s, pool, records, slots, z);
-    let kept = begins(&old_pool, pool)
-        && begins(&old_records, records)
-        && begins(&old_slots, slots);
-    text::print_answer(r, kept);
+    let kept = shadow_kept(&old_pool, pool, &old_records, records, &old_slots, slots);
+    text::print_answer(r, true, kept);
 }
 
 fn put_event(
@@ -90,9 +105,9 @@ fn put_event(
     copy(&mut old_records, records);
     copy(&mut old_slots, slots);
     let r = shadow::event(map, words, pool, records, slots, z, e);
-    let tables_kept = begins(&old_pool, pool) && begins(&old_records, records);
-    let kept = tables_kept && begins(&old_words, words) && begins(&old_slots, slots);
-    text::print_answer(r, kept);
+    let words_kept = begins(&old_words, words);
+    let kept = shadow_kept(&old_pool, pool, &old_records, records, &old_slots, slots);
+    text::print_answer(r, words_kept, kept);
 }
 
 pub fn cut_setup(

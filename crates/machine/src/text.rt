@@ -108,13 +108,13 @@ fn value_of(r: Answer) -> u64 {
     }
 }
 
-// "refusal, kind, value", and whether all buffers are as they were.
-pub fn print_answer(r: Answer, kept: bool) {
+// "refusal, kind, value", and whether the words and all else are as they were.
+pub fn print_answer(r: Answer, words_kept: bool, kept: bool) {
     print(b":");
     print_number(refusal_of(r));
     print_number(kind_of(r));
     print_number(value_of(r));
-    if kept {
+    if words_kept && kept {
         print(b" unchanged");
         return;
     }

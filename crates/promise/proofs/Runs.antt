@@ -14,7 +14,8 @@ use Rattle.tables.specs.State.{Machine, State, machine64, slotCount, markOf, ne
 use Rattle.shadow.specs.declared.Answer.{Answer}
 use Rattle.shadow.specs.declared.Answer.the-variants.{Refused}
 use Rattle.shadow.specs.After.{Result, rangesFit, lengthsFit, framesFit, callRefusal, after, afterInvlpg, afterCr3, afterBegin, afterLoss}
-use Rattle.shadow.proofs.Sizing.{both, Ranged, ranged}
+use Rattle.paging.proofs.Tests.{both}
+use Rattle.shadow.proofs.Sizing.{Ranged, ranged}
 use Rattle.shadow.proofs.Starting.{accepted-sizes, setup-exact, setup-sized}
 use Rattle.trees.proofs.Entries.{able64}
 use Rattle.trees.proofs.Paths.{zero-absent}

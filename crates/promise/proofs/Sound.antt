@@ -30,7 +30,7 @@ use Rattle.tables.specs.Steps.{slotServes}
 use Rattle.shadow.specs.declared.Answer.{Answer}
 use Rattle.shadow.specs.declared.Answer.the-variants.{Again, Address, Fault as Faulted}
 use Rattle.shadow.specs.After.{Result, valueAt, after}
-use Rattle.shadow.proofs.Sizing.{both}
+use Rattle.paging.proofs.Tests.{both}
 use Rattle.shadow.proofs.Accepted.{accepted-own}
 use Rattle.trees.proofs.SlotRules.{right-complete}
 use Rattle.keeps.proofs.Moves.{page-small}

@@ -5,11 +5,11 @@ use mathlib.Core.List.{List, [], _∷_, _++_}
 use Prim.Native.Nat.{ℕ, zero, suc, _+_, _*_, _/_, _%_, _^_, _≤_, _<_}
 use native.Mathlib.Numerals.{add-one}
 use native.Mathlib.Omega.{arith}
-use lib.Dec.{eqb, ltb}
+use lib.Dec.{eqb, ltb, leb}
 use lib.ListN.{length, take, drop, getD, length-append}
 use lib.Seq.{take-append-seam}
 use borrow.Author.Tests.{eq-eqb, ne-eqb, lt-ltb, lt-leb, le-leb, leb-true}
-use Rattle.paging.specs.Numbers.{all, isBetween}
+use Rattle.paging.specs.Numbers.{all}
 use Rattle.paging.specs.Frame.{isNew, mapFits, cr3sFit}
 use Rattle.paging.specs.Layout.{frameWords}
 use Rattle.paging.proofs.Numbers.{between, all-none, all-more}
@@ -122,7 +122,7 @@ module _ (text : List ℕ) (z : Puzzle) (at : ℕ) (e : puzzleOf text ≡ got z 
       simp (le-leb (2 ^ 20 + P * 4) (2 ^ 40) (omega (arith, range .processors)), map-fits, all-each (length (z .map)) (λ i. not (leb (2 ^ 20) (getD (z .map) i 0) && ltb (getD (z .map) i 0) (2 ^ 20 + P * 4))) (λ i h. simp (lt-leb (2 ^ 20) (getD (z .map) i 0) (reads.map-below text e i h))))
 
   starts : Startable (z .map) (z .cr3s)
-  unfolding cr3sFit machine.setupRefusal machine.rangesFit machine.lengthsFit machine.cr3sFit
+  unfolding cr3sFit machine.setupRefusal machine.rangesFit machine.lengthsFit
   starts = record { few = range .processors; taken = taken }
     where
       taken : (pool records slots : List ℕ) → length pool ≡ 2048 * length (z .cr3s) → length records ≡ 8 * length (z .cr3s) → length slots ≡ 24 * length (z .cr3s)
@@ -132,7 +132,7 @@ module _ (text : List ℕ) (z : Puzzle) (at : ℕ) (e : puzzleOf text ≡ got z 
           let P = length (z .cr3s) in
           let r = range in
           let M = machine64 (sizesOf (z .map) (z .cr3s)) in
-          no-test (machine.rangesFit M && machine.lengthsFit M (z .map) (shadowOf pool records) slots && eqb P P) (machine.framesFit M (z .map)) (machine.cr3sFit M (z .cr3s))
+          no-test (machine.rangesFit M && machine.lengthsFit M (z .map) (shadowOf pool records) slots && eqb P P) (machine.framesFit M (z .map)) (cr3sFit G (z .cr3s))
           (simp (le-leb 1 G (r .some), le-leb G 256 (omega (arith, r .frames)), le-leb 1 P (r .one), le-leb P 4 (r .processors), eq-eqb G G refl, eq-eqb P P refl, eq-eqb (length pool) (512 * (P * 4)) (omega arith), eq-eqb (length records) (2 * (P * 4)) (omega arith), eq-eqb (length slots) (24 * P) c))
           frames-fit cr3s-fit
 
