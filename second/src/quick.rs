@@ -274,7 +274,7 @@ impl Flat<'_> {
         let mut names = [0u8; 64];
         for t in 0..self.tables() as usize {
             let (level, shadowed) = (self.records[2 * t], self.records[2 * t + 1]);
-            let root = t as u64 % self.sizes.share == 0;
+            let root = (t as u64).is_multiple_of(self.sizes.share);
             if level > 4 || (level == 4) != root || shadowed >= self.sizes.guest_frames {
                 return false;
             }
@@ -289,7 +289,7 @@ impl Flat<'_> {
         }
         let mut tables = (0..self.tables() as usize).zip(names);
         tables.all(|(t, count)| {
-            let live = self.records[2 * t] != 0 && t as u64 % self.sizes.share != 0;
+            let live = self.records[2 * t] != 0 && !(t as u64).is_multiple_of(self.sizes.share);
             count == u8::from(live)
         })
     }
