@@ -8,7 +8,7 @@
    holds that number and zeros (flamecurl_read: and the line). An `answer` of another count than the one named below is
    refused with 1 and is left as it was. No function keeps anything between calls, allocates, or calls anything but memcpy and
    memset: calls from several threads are independent if their buffers are. flamecurl_read takes 140 KB of stack,
-   flamecurl_answers and flamecurl_run 220 KB, the others less than 4 KB.
+   flamecurl_answers and flamecurl_run 220 KB, the others less than 16 KB.
 
    Sizes. G guest frames of 512 words, 1 to 256; P processors, 1 to 4; S shadow tables for each processor, 4 to 16; at most
    4,096 events in a list call. Counts in brackets below are exact unless "at least" stands there.

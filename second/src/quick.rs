@@ -14,14 +14,21 @@ struct Held {
 
 /// The eight rights of `set`, each kept only as far as `own` allows.
 fn narrowed(set: u8, own: u8) -> u8 {
-    let mut to = 0;
-    for rights in 0..8 {
-        if set & (1 << rights) != 0 {
-            to |= 1 << (rights & own);
-        }
-    }
-    to
+    NARROWED[usize::from(own)][usize::from(set)]
 }
+
+static NARROWED: [[u8; 256]; 8] = {
+    let mut table = [[0; 256]; 8];
+    let mut at = 0;
+    while at < 8 * 256 * 8 {
+        let (own, set, rights) = (at / 2048, at / 8 % 256, at % 8);
+        if set >> rights & 1 == 1 {
+            table[own][set] |= 1 << (rights & own);
+        }
+        at += 1;
+    }
+    table
+};
 
 struct Now<'a> {
     held: Held,
@@ -165,6 +172,21 @@ fn map_fits(map: &[u64]) -> bool {
     frames[n - 1] < FRAME_LIMIT && frames[..n].windows(2).all(|pair| pair[0] < pair[1])
 }
 
+/// Whether an event is refused by none of the tests.
+fn fits(event: &Event, guest_frames: u64, processors: u64) -> bool {
+    let Event { kind, a, b, .. } = *event;
+    let numbers_fit = match kind {
+        STORE => a < WORDS_PER_FRAME * guest_frames,
+        INVLPG => address_allowed(a) && b == 0,
+        CR3_WRITE => a < guest_frames && b == 0,
+        ACCESS => address_allowed(a) && b < 6,
+        BEGIN => address_allowed(a) && b < 8,
+        EXTEND | DROP => a < 8 && b == 0,
+        _ => false,
+    };
+    event.processor < processors && numbers_fit
+}
+
 /// The list call, as `lists::list`.
 #[allow(clippy::too_many_arguments)] // the buffers of document 01, each by its name
 pub fn list(
@@ -198,8 +220,9 @@ pub fn list(
     }
     for e in events.chunks_exact(4) {
         let event = Event::new(e[0], e[1], e[2], e[3]);
-        if let Some(refusal) = event.refusal(guest_frames, sizes.processors) {
-            return refused(refusal);
+        if !fits(&event, guest_frames, sizes.processors) {
+            let refusal = event.refusal(guest_frames, sizes.processors);
+            return refused(refusal.expect("an event that does not fit is refused"));
         }
     }
     if let Some(refusal) = asked.refusal(sizes.processors) {
@@ -251,7 +274,7 @@ impl Flat<'_> {
         let mut names = [0u8; 64];
         for t in 0..self.tables() as usize {
             let (level, shadowed) = (self.records[2 * t], self.records[2 * t + 1]);
-            let root = t as u64 % self.sizes.share == 0;
+            let root = (t as u64).is_multiple_of(self.sizes.share);
             if level > 4 || (level == 4) != root || shadowed >= self.sizes.guest_frames {
                 return false;
             }
@@ -266,7 +289,7 @@ impl Flat<'_> {
         }
         let mut tables = (0..self.tables() as usize).zip(names);
         tables.all(|(t, count)| {
-            let live = self.records[2 * t] != 0 && t as u64 % self.sizes.share != 0;
+            let live = self.records[2 * t] != 0 && !(t as u64).is_multiple_of(self.sizes.share);
             count == u8::from(live)
         })
     }

@@ -7,3 +7,4 @@ pub mod Indices
 pub mod Layouts
 pub mod Steps
 pub mod Frames
+pub mod Notes

@@ -4,7 +4,7 @@ ghost use mathlib.Core.Path.{_≡_};
 ghost use Prim.Native.Nat.{ℕ, _<_, _≤_, _^_};
 ghost use lib.ListN.{length};
 ghost use Rattle.paging.specs.Numbers.{isBetween};
-ghost use Rattle.paging.specs.Frame.{hostOf, originOf, isNew, mapFits, cr3sFit};
+ghost use Rattle.paging.specs.Frame.{hostOf, originOf, isNew, mapFits, notedAt, Noted, cr3sFit};
 ghost use Rattle.paging.specs.Layout.{tables64, pageOf, index, frameOf, rightsOf, compose, isPresent, mark, bit};
 ghost use Rattle.paging.specs.Walk.{start, narrowed, downTo, step};
 ghost use Rattle.paging.specs.Request.{requestOf, enough};
@@ -171,8 +171,26 @@ pub fn is_new(map: &[u64], n: usize, f: u64) -> bool
     true
 }
 
-// No frame repeats, and none is 2^40 or more.
-pub fn map_fits(map: &[u64]) -> bool
+fn noted_at(f: u64) -> usize
+    ensures { λ r. ⌜ (r ≡ notedAt f) × (r < 4096) ⌝ }
+{
+    ((f ^ (f >> 12)) & 0xFFF) as usize
+}
+
+// Only a frame whose place is noted already need be compared with those before it.
+fn is_new_by(map: &[u64], notes: &[u8], n: usize, f: u64) -> bool
+    requires { ⌜ (n ≤ length (now map)) × Noted (now map) (now notes) n ⌝ }
+    ensures { λ r. ⌜ r ≡ isNew (now (map .entry)) n f ⌝ }
+{
+    let k = noted_at(f);
+    if notes[k] != 1 {
+        return true;
+    }
+    is_new(map, n, f)
+}
+
+fn map_fits_by(map: &[u64], notes: &mut [u8]) -> bool
+    requires { ⌜ length (now notes) ≡ 4096 ⌝ }
     ensures { λ r. ⌜ r ≡ mapFits (2 ^ 40) (now (map .entry)) ⌝ }
 {
     let mut i = 0;
@@ -181,12 +199,22 @@ pub fn map_fits(map: &[u64]) -> bool
         if f >= 0x100_0000_0000 {
             return false;
         }
-        if !is_new(map, i, f) {
+        if !is_new_by(map, notes, i, f) {
             return false;
         }
+        let k = noted_at(f);
+        notes[k] = 1;
         i += 1;
     }
     true
+}
+
+// No frame repeats, and none is 2^40 or more. Notes make the test of most maps linear; what they held before does not matter.
+pub fn map_fits(map: &[u64]) -> bool
+    ensures { λ r. ⌜ r ≡ mapFits (2 ^ 40) (now (map .entry)) ⌝ }
+{
+    let mut notes = [0u8; 4096];
+    map_fits_by(map, &mut notes)
 }
 
 pub fn cr3s_fit(frames: u64, cr3s: &[u64]) -> bool
