@@ -61,7 +61,7 @@ one-run = call-same RunOf (λ b x y p q. p ∙ sym q)
 
 -- OF AN ACCEPTED TEXT `run` FINDS NOTHING OUT OF RANGE
 module _ (text : List ℕ) {z : Puzzle} {at : ℕ} (e : puzzleIn text ≡ got z at) where
-  read : puzzleOf text ≡ got z at
+  pub read : puzzleOf text ≡ got z at
   read = in-text text (leb (length text) 65536) e
 
   -- setup takes its map and its CR3s
