@@ -4,6 +4,7 @@ pub mod Refuses
 pub mod Accepts
 pub mod Replays
 pub mod Pairs
+pub mod Stopping
 pub mod Collects
 pub mod Promise
 pub mod Theorems

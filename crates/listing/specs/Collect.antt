@@ -1,5 +1,5 @@
 -- How the code collects the outcomes from the work bytes, in the form of its code.
-use mathlib.Core.Bool.{Bool, cond, not, _&&_}
+use mathlib.Core.Bool.{Bool, cond, not, _&&_, _||_}
 use mathlib.Core.List.{List}
 use Prim.Native.Nat.{ℕ, zero, suc, _+_, _*_, _/_, _%_}
 use lib.Dec.{eqb}
@@ -10,6 +10,7 @@ use Rattle.paging.specs.declared.Step.{Step}
 use Rattle.paging.specs.declared.Step.the-variants.{On, Absent, Beyond, Complete}
 use Rattle.paging.specs.Numbers.{some, each}
 use Rattle.paging.specs.Request.{enough}
+use Rattle.listing.specs.declared.Faults.{Faults}
 use Rattle.marks.specs.Work.{cell}
 use Rattle.marks.specs.Follow.{isMarked, walkOf, stepIn}
 
@@ -54,6 +55,14 @@ lacks G q work = some (8 * G) (lacksAt q work)
 -- a held partial walk stops with this base code
 abbrev pub stopsAt : ℕ → ℕ → List ℕ → List ℕ → ℕ → ℕ → Bool
 stopsAt G page words work base k = eqb (getD work k 0) 1 && eqb (stopCode (stepIn G page words (walkAt G k))) base
+
+-- the base code with which the walk of byte k stops; 1 if it is not held, or does not stop
+abbrev pub stopAt : ℕ → ℕ → List ℕ → List ℕ → ℕ → ℕ
+stopAt G page words work k = cond (eqb (getD work k 0) 1) (stopCode (stepIn G page words (walkAt G k))) 1
+
+-- one walk more
+abbrev pub withFault : Faults → ℕ → Faults
+withFault s code = record { absent = s .absent || eqb code 0; beyond = s .beyond || eqb code 9 }
 
 unfoldable pub stops : ℕ → ℕ → List ℕ → List ℕ → ℕ → Bool
 stops G page words work base = some (32 * G) (λ j. stopsAt G page words work base (8 * G + j))

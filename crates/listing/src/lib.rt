@@ -18,7 +18,7 @@ ghost use Rattle.listing.specs.Call.{Lent, asked, lent, sizesFit, firstR
 ghost use Rattle.rules.specs.Numbers.{eventOf};
 ghost use Rattle.listing.specs.Answer.{Ready, Answers};
 ghost use Rattle.listing.specs.Replay.{Reach, replayOf, forgets, applied, replayed};
-ghost use Rattle.listing.specs.Collect.{outOf, pushed, stopCode, walkAt, servesWith, serves, lacksAt, lacks, stopsAt, stops, addresses, collected};
+ghost use Rattle.listing.specs.Collect.{outOf, pushed, stopCode, walkAt, servesWith, serves, lacksAt, lacks, stopAt, withFault, stops, addresses, collected};
 
 // The number of outcomes, or why the call was refused.
 pub enum Listed {
@@ -187,31 +187,58 @@ fn walk_at(frames: u64, k: u64) -> Walk
     }
 }
 
-fn stops_at(words: &[u64], work: &[u8], frames: u64, page: u64, base: u64, k: usize) -> bool
+// The base code of the fault that the walk of byte k gives, if it is held; else 1, which no fault of an entry has.
+fn stop_at(words: &[u64], work: &[u8], frames: u64, page: u64, k: usize) -> u64
     requires { ⌜ Room frames (now words) (now work) × (0 < frames) × (k < workBytes frames) ⌝ }
-    ensures { λ b. ⌜ b ≡ stopsAt frames page (now (words .entry)) (now (work .entry)) base k ⌝ }
+    ensures { λ r. ⌜ r ≡ stopAt frames page (now (words .entry)) (now (work .entry)) k ⌝ }
 {
     if work[k] != 1 {
-        return false;
+        return 1;
     }
     let s = marks::next(words, frames, page, walk_at(frames, k as u64));
-    stop_code(s) == base
+    stop_code(s)
 }
 
-fn stops(words: &[u64], work: &[u8], frames: u64, page: u64, base: u64) -> bool
+// Which faults of entries the held partial walks give.
+struct Faults {
+    absent: bool,
+    beyond: bool,
+}
+
+fn with_fault(s: Faults, code: u64) -> Faults
+    ensures { λ r. ⌜ r ≡ withFault s code ⌝ }
+{
+    if code == 0 {
+        return Faults {
+            absent: true,
+            beyond: s.beyond,
+        };
+    }
+    if code == 9 {
+        return Faults {
+            absent: s.absent,
+            beyond: true,
+        };
+    }
+    s
+}
+
+fn find_faults(words: &[u64], work: &[u8], frames: u64, page: u64) -> Faults
     requires { ⌜ Room frames (now words) (now work) × (0 < frames) ⌝ }
-    ensures { λ b. ⌜ b ≡ stops frames page (now (words .entry)) (now (work .entry)) base ⌝ }
+    ensures { λ r. ⌜ (r .absent ≡ stops frames page (now (words .entry)) (now (work .entry)) 0) × (r .beyond ≡ stops frames page (now (words .entry)) (now (work .entry)) 9) ⌝ }
 {
     let first = (8 * frames) as usize;
     let n = (32 * frames) as usize;
+    let mut s = Faults {
+        absent: false,
+        beyond: false,
+    };
     let mut j = 0;
     while j < n {
-        if stops_at(words, work, frames, page, base, first + j) {
-            return true;
-        }
+        s = with_fault(s, stop_at(words, work, frames, page, first + j));
         j += 1;
     }
-    false
+    s
 }
 
 // Writes one pair more, if there is one to write; the result is the count.
@@ -254,15 +281,10 @@ fn collect(
     ensures { λ r. ⌜ outOf r (now (outcomes .exit)) ≡ collected frames page q (now (words .entry)) (now (work .entry)) (now (outcomes .entry)) ⌝ }
 {
     let n = addresses(work, outcomes, frames, q);
-    let m = push(outcomes, n, stops(words, work, frames, page, 0), 1, q.adds);
+    let s = find_faults(words, work, frames, page);
+    let m = push(outcomes, n, s.absent, 1, q.adds);
     let l = push(outcomes, m, lacks(work, frames, q), 1, 1 + q.adds);
-    push(
-        outcomes,
-        l,
-        stops(words, work, frames, page, 9),
-        1,
-        9 + q.adds,
-    )
+    push(outcomes, l, s.beyond, 1, 9 + q.adds)
 }
 
 // ---- refusals

@@ -1,6 +1,5 @@
 -- A marked byte's walk, and what it does with these words.
 use mathlib.Core.Path.{_≡_, refl, sym, _∙_, ap}
-use Prim.Native.Nat.{ℕ}
 use native.Mathlib.Omega.{arith}
 use lib.Dec.{eqb}
 use lib.ListN.{getD}
@@ -11,8 +10,8 @@ use Rattle.paging.specs.declared.Step.{Step}
 use Rattle.marks.specs.Follow.{stepIn}
 use Rattle.listing.specs.Collect.{stopCode}
 use Rattle.listing.proofs.Bytes.{byte-walk}
-use Rattle.listing.proofs.stops_at.Statement.{statement}
-use Rattle.listing.proofs.stops_at.Tie as tie
+use Rattle.listing.proofs.stop_at.Statement.{statement}
+use Rattle.listing.proofs.stop_at.Tie as tie
 
 returns : tie.Need-returns
 returns c = let a = c .before .before .before .before .args in simp (ne-eqb (getD (a .work .now) (a .k) 0) 1 (c .if1 .taken))
@@ -27,11 +26,10 @@ returns-2 : tie.Need-returns-2
 returns-2 c =
     let a = c .before .before .before .before .before .before .before .args in
     let s = c .before .next .ensures ∙ ap (λ (w : Walk). stepIn (a .frames) (a .page) (a .words .now) w) (c .before .before .walk-at .ensures) in
-    simp (eq-eqb (getD (a .work .now) (a .k) 0) 1 (c .before .before .before .if1 .left))
-    (ap (λ (n : ℕ). eqb n (a .base)) (c .stop-code .ensures ∙ ap (λ (s : Step). stopCode s) s))
+    simp (eq-eqb (getD (a .work .now) (a .k) 0) 1 (c .before .before .before .if1 .left)) (c .stop-code .ensures ∙ ap (λ (s : Step). stopCode s) s)
 
-pub stops-at-spec : {M : Type 1} → statement M
-stops-at-spec =
+pub stop-at-spec : {M : Type 1} → statement M
+stop-at-spec =
     tie.close
     (tie.spec
     (λ c. omega arith)
