@@ -24,7 +24,8 @@ use Rattle.tables.specs.Steps.{Trod, walkGuest, slotServes, servingSlot}
 use Rattle.shadow.specs.declared.Answer.{Answer}
 use Rattle.shadow.specs.declared.Answer.the-variants.{Address, Fault as Faulted, Again}
 use Rattle.shadow.specs.After.{Result, gives, valueAt, isWrite, dirtied, fill, afterAccess, afterMiss, afterWalk}
-use Rattle.trees.proofs.Fills.{Leads, first-passes}
+use Rattle.trees.proofs.Counts.{first-passes}
+use Rattle.trees.proofs.Settles.{Leads}
 use Rattle.keeps.proofs.Alikes.{Same, same-refl, same-sym, same-trans, same-mark-d}
 use Rattle.keeps.proofs.Treads.{Treads, treads}
 use Rattle.keeps.proofs.Right.{Mapped, Right, Reshaped, words-right, reshaped-right}

@@ -23,7 +23,7 @@ use Rattle.tables.specs.Steps.{guestEntry, leafOf}
 use Rattle.shadow.specs.declared.Answer.{Answer}
 use Rattle.shadow.specs.declared.Answer.the-variants.{Again}
 use Rattle.shadow.specs.After.{Result, gives, isWrite, dirtied, fill, afterAccess}
-use Rattle.trees.proofs.Fills.{Own}
+use Rattle.trees.proofs.Builds.{Own}
 use Rattle.trees.proofs.Leaves.{Filled, leafOf-right}
 use Rattle.trees.proofs.Paths.{path-on, zero-absent}
 use Rattle.keeps.proofs.Right.{Mapped, Right, able}

@@ -15,7 +15,8 @@ use Rattle.tables.specs.Steps.{Settled, settle, build, freeCount, emptyShare, f
 use Rattle.tables.proofs.Counts.{by-cases}
 use Rattle.shadow.specs.After.{fill}
 use Rattle.shadow.proofs.Shares.{three-free}
-use Rattle.trees.proofs.Fills.{Leads, Stays, Built, filled, refilled}
+use Rattle.trees.proofs.Settles.{Leads}
+use Rattle.trees.proofs.Builds.{Built, filled, refilled}
 use Rattle.trees.proofs.Slots.{SameSlot, Empty, Room, same-on, same-empty, emptySlots-length, emptySlots-other, emptySlots-here, flush-length, flush-others, flush-here}
 use Rattle.keeps.proofs.Right.{Mapped, Right, able, room, Reshaped}
 use Rattle.keeps.proofs.Takes.{flush-leaves}

@@ -21,7 +21,7 @@ use Rattle.tables.specs.declared.Walked.the-variants.{Whole, Fault}
 use Rattle.tables.specs.State.{machine64}
 use Rattle.tables.specs.Steps.{Trod, trod, byStep, walkFrom, guestEntry}
 use Rattle.keeps.proofs.Alikes.{Same, same-trans, same-mark-a, same-get}
-use Rattle.trees.proofs.Fills.{Leads}
+use Rattle.trees.proofs.Settles.{Leads}
 
 whole-walk : {last last′ : Guest} {w w′ : Walk} → Whole last w ≡ Whole last′ w′ → w ≡ w′
 whole-walk e = cc

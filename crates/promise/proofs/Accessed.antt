@@ -25,7 +25,7 @@ use Rattle.tables.proofs.Counts.{by-cases}
 use Rattle.shadow.specs.After.{Result, fill, afterAccess, callRefusal}
 use Rattle.shadow.proofs.Accepted.{accepted-ranged}
 use Rattle.trees.proofs.Trees.{shd}
-use Rattle.trees.proofs.Fills.{Built}
+use Rattle.trees.proofs.Builds.{Built}
 use Rattle.trees.proofs.Roots.{root-table, root-owner}
 use Rattle.trees.proofs.Slots.{SameSlot}
 use Rattle.keeps.proofs.Alikes.{Same, same-refl}

@@ -18,6 +18,7 @@ use Rattle.lawful.specs.Rules.{isRoot}
 use Rattle.trees.proofs.Trees.{Able, Outside, Exact, ent, lev, Names, Trees, Less, Same}
 use Rattle.trees.proofs.Entries.{zero-names}
 use Rattle.trees.proofs.Falls.{falls, same-owner}
+use Rattle.trees.proofs.Roots.{root-owner, root-level}
 
 module _ (M : Machine) (pool : List ℕ) (page : ℕ) where
   -- one more step at the end
@@ -66,18 +67,6 @@ module _ (M : Machine) (ok : Able M) (s : Shadow) (exact : Exact M s) (page : �
 -- ---- a path on a table
 
 module _ (M : Machine) (ok : Able M) (map : List ℕ) (outside : Outside M map) (s : Shadow) (trees : Trees M map s) (p : ℕ) (hp : p < M .processors) where
-  pub root-within : rootOf M p < tableCount M
-  root-within = mul-lt-mul-of-pos-right hp (ok .some)
-
-  pub root-owner : ownerOf M (rootOf M p) ≡ p
-  root-owner = mul-div-cancel p (ok .some)
-
-  pub root-level : lev M s (rootOf M p) ≡ M .tables .levels
-  unfolding isRoot
-  root-level =
-      let is : eqb (rootOf M p) (rootOf M (ownerOf M (rootOf M p))) ≡ true = eq-eqb _ _ (ap (rootOf M) (sym root-owner)) in
-      eqb-true (lev M s (rootOf M p)) (M .tables .levels) (sym (trees .roots (rootOf M p) root-within) ∙ is)
-
   module _ (page : ℕ) where
     abbrev at : ℕ → Path
     at n = descend M (s .pool) page n (top M p)
@@ -107,7 +96,7 @@ module _ (M : Machine) (ok : Able M) (map : List ℕ) (outside : Outside M map) 
     pub stands : (n : ℕ) → n < M .tables .levels → at n .table < tableCount M
         → (lev M s (at n .table) ≡ M .tables .levels - n) × (ownerOf M (at n .table) ≡ p)
     unfolding descend
-    stands zero hn h = (omega (arith, root-level), root-owner)
+    stands zero hn h = (omega (arith, root-level M ok map s trees p hp), root-owner M ok p)
     stands (suc n) hn h =
         let m = step-names n h in
         let r = stands n (omega arith) (m .table) in
