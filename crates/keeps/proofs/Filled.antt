@@ -1,16 +1,16 @@
 -- A fill keeps the state rules: with tables enough, or after the share is emptied.
-use mathlib.Core.Path.{_≡_, refl, sym, ap, _∙_}
+use mathlib.Core.Path.{_≡_, refl, _∙_}
 use mathlib.Core.Bool.{Bool, true, false, cond}
 use mathlib.Core.List.{List}
-use mathlib.Core.Logic.{_⊎_, inl, inr}
-use Prim.Native.Nat.{ℕ, zero, suc, _+_, _-_, _*_, _^_, _≤_, _<_}
+use mathlib.Core.Logic.{_⊎_, inl}
+use Prim.Native.Nat.{ℕ, _^_, _≤_, _<_}
 use native.Mathlib.Omega.{arith}
 use lib.Dec.{ltb}
 use lib.ListN.{length}
 use borrow.Author.Tests.{ltb-false}
 use Rattle.paging.specs.declared.Guest.{Guest}
 use Rattle.tables.specs.declared.Sizes.{Sizes}
-use Rattle.tables.specs.State.{Machine, Shadow, State, stateOf, machine64, slotCount, markOf, shadows, rootOf, Sized}
+use Rattle.tables.specs.State.{Machine, State, stateOf, machine64, slotCount, markOf, shadows, rootOf, Sized}
 use Rattle.tables.specs.Steps.{Settled, settle, build, freeCount, emptyShare, flush, emptySlots}
 use Rattle.tables.proofs.Counts.{by-cases}
 use Rattle.shadow.specs.After.{fill}

@@ -1,45 +1,29 @@
 -- INVLPG and CR3 write keep the state rules: they take entries away, and with them the page's path.
-use mathlib.Core.Path.{_≡_, refl, sym, ap, ap₂, subst, _∙_}
-use mathlib.Core.Bool.{Bool, true, false, cond, _&&_}
+use mathlib.Core.Path.{_≡_, refl, ap, _∙_}
+use mathlib.Core.Bool.{Bool, true, false, cond}
 use mathlib.Core.List.{List}
 use mathlib.Core.Logic.{_⊎_, inl, inr}
-use Prim.Native.Nat.{ℕ, zero, suc, _+_, _-_, _*_, _/_, _%_, _^_, _≤_, _<_}
-use native.Mathlib.Nat.{mod-lt}
-use native.Mathlib.Numerals.{sub-one}
+use Prim.Native.Nat.{ℕ, _≤_, _<_}
 use native.Mathlib.Decide.{ℕ-discrete, decLt}
 use native.Mathlib.Omega.{arith}
-use lib.Dec.{eqb, ltb}
-use lib.ListN.{length, getD}
-use borrow.Author.Tests.{lt-ltb, le-ltb, ltb-true, ltb-false, eq-eqb, eqb-true}
-use Rattle.paging.specs.declared.Guest.{Guest}
-use Rattle.paging.specs.declared.Origin.{Origin}
-use Rattle.paging.specs.declared.Origin.the-variants.{Of, Nowhere}
-use Rattle.paging.specs.Frame.{guest, host, originOf}
-use Rattle.paging.specs.Layout.{tables64, index, pageOf, frameOf, rightsOf, isPresent}
-use Rattle.paging.specs.Walk.{meet}
+use lib.Dec.{ltb}
+use borrow.Author.Tests.{ltb-true, ltb-false}
+use Rattle.paging.specs.Frame.{guest}
+use Rattle.paging.specs.Layout.{tables64, index, pageOf, isPresent}
 use Rattle.paging.proofs.Indices.{index-small}
-use Rattle.paging.proofs.Rights.{meet-small}
 use Rattle.tables.specs.declared.Sizes.{Sizes}
-use Rattle.tables.specs.declared.Path.{Path}
-use Rattle.tables.specs.State.{Machine, Shadow, onPool, onRecords, State, stateOf, machine64, slotCount, markOf, pageIn, placeIn, rightsIn, withSlot, withRecord, emptied, tableCount, ownerOf, rootOf, entryCount, entryOf, withEntry, named, top, nextEntry, down, descend, pathTo, Sized}
-use Rattle.tables.specs.Steps.{flush, emptySlots, emptyShare}
+use Rattle.tables.specs.State.{Machine, Shadow, onPool, onRecords, State, machine64, slotCount, markOf, withRecord, tableCount, ownerOf, rootOf, entryCount, withEntry, nextEntry, pathTo, Sized}
+use Rattle.tables.specs.Steps.{flush, emptyShare}
 use Rattle.tables.proofs.Counts.{by-cases}
-use Rattle.shadow.specs.declared.Answer.the-variants.{Done, NoStep}
-use Rattle.shadow.specs.declared.Place.{Place}
-use Rattle.shadow.specs.declared.Place.the-variants.{At, Off}
-use Rattle.shadow.specs.After.{Result, leafCleared, afterInvlpg, afterCr3, afterBegin, afterExtend, afterLoss, gives, byPlace, placeOf, placeBelow}
-use Rattle.shadow.proofs.Extends.{origin-small}
-use Rattle.lawful.specs.Rules.{slotRight}
-use Rattle.trees.proofs.Trees.{Able, Outside, Exact, ent, lev, shd, Trees, Less, Same}
-use Rattle.trees.proofs.Rules.{Lawful}
+use Rattle.shadow.specs.After.{leafCleared, afterInvlpg, afterCr3}
+use Rattle.trees.proofs.Trees.{Outside, ent, lev, shd, Trees, Less, Same}
 use Rattle.trees.proofs.Leaves.{leaf-entry, leaf-beside, leaf-trees}
 use Rattle.trees.proofs.Roots.{root-owner}
 use Rattle.trees.proofs.Shares.{share-trees, share-less, share-others, share-own, root-trees, root-frame, root-levels, root-frames}
-use Rattle.trees.proofs.Paths.{path-on, path-level, lost-entry, stands, zero-absent}
+use Rattle.trees.proofs.Paths.{lost-entry, stands, zero-absent}
 use Rattle.trees.proofs.Unique.{leaf-here}
-use Rattle.trees.proofs.Slots.{SameSlot, Empty, Room, with-length, with-other, with-mark, with-page, with-place, with-rights, emptied-here, emptySlots-length, emptySlots-other, emptySlots-here, flush-length, flush-others, flush-here}
-use Rattle.trees.proofs.SlotRules.{Standing, right-partial, right-page, empty-right, complete-right, partial-right}
-use Rattle.keeps.proofs.Right.{Mapped, Right, able, room, Reshaped, reshaped-right, one-slot}
+use Rattle.trees.proofs.Slots.{SameSlot, Empty, Room, emptySlots-length, emptySlots-other, emptySlots-here, flush-length, flush-others, flush-here}
+use Rattle.keeps.proofs.Right.{Mapped, Right, able, room, Reshaped}
 
 -- what a flush leaves of a slot
 pub flush-leaves : (p v : ℕ) (slots : List ℕ) (k : ℕ) → k < slotCount → Room slots p

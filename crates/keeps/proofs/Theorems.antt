@@ -1,22 +1,20 @@
 -- What holds from every state that the event call takes: the state rules are kept, and the put after "again" answers an address.
 use mathlib.Core.Path.{_≡_, refl, sym, ap, _∙_}
-use mathlib.Core.Bool.{Bool, true}
+use mathlib.Core.Bool.{true}
 use mathlib.Core.List.{List, []}
 use Prim.Native.Nat.{ℕ, _*_, _≤_, _<_}
 use native.Mathlib.Omega.{arith}
-use borrow.Author.Tests.{eq-eqb}
 use lib.ListN.{length, set, length-set}
 use Rattle.paging.specs.Layout.{frameWords, tables64, pageOf}
 use Rattle.paging.specs.Request.{requestOf}
 use Rattle.rules.specs.declared.Event.{Event}
 use Rattle.tables.specs.declared.Sizes.{Sizes}
-use Rattle.tables.specs.State.{Machine, State, machine64, Sized}
+use Rattle.tables.specs.State.{State, machine64, Sized}
 use Rattle.tables.proofs.Counts.{by-cases}
 use Rattle.lawful.specs.Rules.{lawful}
 use Rattle.rules.specs.History.{eventRefusal}
-use Rattle.shadow.specs.declared.Answer.{Answer}
 use Rattle.shadow.specs.declared.Answer.the-variants.{Done, Address, Again, NoStep, Refused}
-use Rattle.shadow.specs.After.{Result, asSetup, callRefusal, after, afterInvlpg, afterCr3, afterAccess, afterBegin, afterLoss}
+use Rattle.shadow.specs.After.{Result, asSetup, callRefusal, after, afterInvlpg, afterCr3, afterBegin, afterLoss}
 use Rattle.shadow.proofs.Accepted.{accepted-ranged, accepted-sized, accepted-own, accepted-words, accepted-frames, accepted-event}
 use Rattle.trees.proofs.Entries.{able64}
 use Rattle.trees.proofs.Rules.{lawful-is}

@@ -1,8 +1,7 @@
 -- An access carries the invariant: what it fills is the guest's path as it is now.
-use mathlib.Core.Path.{_≡_, refl, sym, ap, subst, _∙_}
+use mathlib.Core.Path.{_≡_, refl, sym, ap, _∙_}
 use mathlib.Core.List.{List}
-use mathlib.Core.Bool.{Bool, true}
-use Prim.Native.Nat.{ℕ, zero, suc, _+_, _-_, _*_, _^_, _≤_, _<_}
+use Prim.Native.Nat.{ℕ, suc, _^_, _≤_, _<_}
 use native.Mathlib.Decide.{ℕ-discrete}
 use native.Mathlib.Omega.{arith}
 use Rattle.paging.specs.declared.Guest.{Guest}
@@ -12,30 +11,28 @@ use Rattle.paging.specs.Layout.{tables64, pageOf, get, index}
 use Rattle.paging.specs.Walk.{start, step}
 use Rattle.paging.proofs.Layouts.{tables64-sound}
 use Rattle.rules.specs.declared.Event.{Event}
-use Rattle.rules.specs.History.{eventAt, wordsAt, cr3At}
-use Rattle.rules.specs.View.{View, viewOf}
+use Rattle.rules.specs.History.{eventAt, wordsAt}
+use Rattle.rules.specs.View.{viewOf}
 use Rattle.rules.proofs.Lawful.{Lawful}
 use Rattle.rules.proofs.Steps.{Kept, begin}
 use Rattle.rules.proofs.Theorems.{view-lawful}
 use Rattle.tables.specs.declared.Sizes.{Sizes}
 use Rattle.tables.specs.declared.Walked.{Walked}
-use Rattle.tables.specs.declared.Walked.the-variants.{Whole, Fault}
-use Rattle.tables.specs.State.{Machine, State, stateOf, machine64, slotCount, pageIn, ownerOf, rootOf, Sized}
+use Rattle.tables.specs.declared.Walked.the-variants.{Whole}
+use Rattle.tables.specs.State.{Machine, State, machine64, slotCount, pageIn, rootOf, Sized}
 use Rattle.tables.proofs.Counts.{by-cases}
 use Rattle.shadow.specs.After.{Result, fill, afterAccess, callRefusal}
 use Rattle.shadow.proofs.Accepted.{accepted-ranged}
 use Rattle.trees.proofs.Trees.{shd}
-use Rattle.trees.proofs.Builds.{Built}
 use Rattle.trees.proofs.Roots.{root-table, root-owner}
 use Rattle.trees.proofs.Slots.{SameSlot}
-use Rattle.keeps.proofs.Alikes.{Same, same-refl}
+use Rattle.keeps.proofs.Alikes.{same-refl}
 use Rattle.keeps.proofs.Right.{Mapped, able}
 use Rattle.keeps.proofs.Moves.{page-small}
 use Rattle.keeps.proofs.Filled.{Fills}
 use Rattle.keeps.proofs.Accesses.{walked, marked, trod-same, marked-same, marked-leads, marked-right, filling, Way, slot, shadow, fault, lacks, again, ways}
 use Rattle.keeps.proofs.Again.{end-covers, end-frame, end-inside}
 use Rattle.promise.proofs.GuestWalks.{Ends, whole, absent, beyond, walks}
-use Rattle.promise.proofs.Settles.{Backed}
 use Rattle.promise.proofs.Holds.{U, seen, Holds, Pathed, Slotted, stay-path, stay-slot, stay-backed, same-path, same-slot, no-slot, quiet-unended, cr3-kept}
 use Rattle.promise.proofs.Carries.{After, sized, fits, hp, still, kept-words}
 

@@ -1,27 +1,23 @@
 -- Between the puts: what may stand there leaves the page's path as it is.
-use mathlib.Core.Path.{_≡_, refl, sym, ap, subst, _∙_}
+use mathlib.Core.Path.{_≡_, refl, sym, ap, _∙_}
 use mathlib.Core.List.{List}
-use mathlib.Core.Bool.{Bool, true, false, not, _&&_, _||_}
-use mathlib.Core.Logic.{_⊎_, inl, inr}
-use Prim.Native.Nat.{ℕ, zero, suc, _+_, _*_, _^_, _≤_, _<_}
-use native.Mathlib.Decide.{ℕ-discrete}
+use Prim.Native.Nat.{ℕ, _≤_, _<_}
 use native.Mathlib.Omega.{arith}
-use lib.Dec.{T, eqb}
+use lib.Dec.{T}
 use borrow.Author.Tests.{eq-eqb, ne-eqb}
 use Rattle.paging.specs.declared.Request.{Request}
-use Rattle.paging.specs.Layout.{tables64, pageOf, rightsOf, isPresent}
+use Rattle.paging.specs.Layout.{tables64, rightsOf, isPresent}
 use Rattle.paging.specs.Request.{enough}
 use Rattle.paging.specs.Walk.{meet}
 use Rattle.rules.specs.declared.Event.{Event}
 use Rattle.tables.specs.declared.Sizes.{Sizes}
-use Rattle.tables.specs.declared.Path.{Path}
-use Rattle.tables.specs.State.{Machine, Shadow, State, machine64, tableCount, ownerOf, top, nextEntry, descend, pathTo, Sized}
+use Rattle.tables.specs.State.{Machine, Shadow, State, machine64, tableCount, ownerOf, nextEntry, pathTo, Sized}
 use Rattle.tables.proofs.Counts.{by-cases}
-use Rattle.shadow.specs.After.{Result, callRefusal, after, afterStore, afterInvlpg, afterCr3, afterAccess, afterBegin, afterExtend, afterLoss}
+use Rattle.shadow.specs.After.{Result, callRefusal, after, afterBegin, afterLoss}
 use Rattle.shadow.proofs.Accepted.{accepted-ranged, accepted-sized, accepted-own}
-use Rattle.trees.proofs.Trees.{Exact, Same, Trees}
+use Rattle.trees.proofs.Trees.{Same, Trees}
 use Rattle.trees.proofs.Paths.{same-path, same-entry}
-use Rattle.keeps.proofs.Right.{Mapped, Right, Reshaped, able}
+use Rattle.keeps.proofs.Right.{Mapped, Right, able}
 use Rattle.keeps.proofs.Moves.{extends}
 use Rattle.keeps.proofs.Takes.{invlpg-reshapes, cr3-reshapes}
 use Rattle.keeps.proofs.Accesses.{Way, slot, shadow, fault, lacks, again, ways, filling-reshapes}

@@ -1,32 +1,29 @@
 -- Every accepted event carries the invariant to the next moment.
 use mathlib.Core.Path.{_≡_, refl, sym, ap, subst, _∙_}
-use mathlib.Core.Bool.{Bool, true, false}
+use mathlib.Core.Bool.{false}
 use mathlib.Core.List.{List}
-use mathlib.Core.Logic.{_⊎_, inl, inr}
-use Prim.Native.Nat.{ℕ, zero, suc, _+_, _-_, _*_, _^_, _≤_, _<_}
+use Prim.Native.Nat.{ℕ, suc, _+_, _*_, _^_, _<_}
 use native.Mathlib.Decide.{ℕ-discrete}
 use native.Mathlib.Omega.{arith}
-use lib.ListN.{length, getD, set, length-set}
+use lib.ListN.{length, getD}
 use Rattle.paging.specs.declared.Guest.{Guest}
-use Rattle.paging.specs.Frame.{guest}
-use Rattle.paging.specs.Layout.{tables64, frameWords, pageOf, isPresent}
+use Rattle.paging.specs.Layout.{tables64, frameWords, pageOf}
 use Rattle.rules.specs.declared.Event.{Event}
 use Rattle.rules.specs.History.{eventAt, wordsAt, cr3At}
 use Rattle.tables.specs.declared.Sizes.{Sizes}
-use Rattle.tables.specs.State.{Machine, Shadow, State, stateOf, machine64, slotCount, markOf, pageIn, tableCount, ownerOf, rootOf, nextEntry, pathTo, Sized}
+use Rattle.tables.specs.State.{Machine, Shadow, State, stateOf, machine64, slotCount, markOf, pageIn, rootOf, nextEntry, pathTo, Sized}
 use Rattle.tables.specs.Steps.{emptySlots}
 use Rattle.tables.proofs.Counts.{by-cases}
-use Rattle.shadow.specs.After.{Result, callRefusal, after, afterStore, afterInvlpg, afterCr3, afterAccess, afterBegin, afterExtend, afterLoss}
-use Rattle.shadow.proofs.Accepted.{accepted-ranged, accepted-sized, accepted-own}
-use Rattle.trees.proofs.Trees.{shd, Less}
+use Rattle.shadow.specs.After.{callRefusal, afterStore, afterInvlpg, afterCr3, afterBegin, afterLoss}
+use Rattle.shadow.proofs.Accepted.{accepted-sized, accepted-own}
+use Rattle.trees.proofs.Trees.{shd}
 use Rattle.trees.proofs.Paths.{less-full}
 use Rattle.trees.proofs.Roots.{root-table, root-owner}
-use Rattle.trees.proofs.Slots.{SameSlot, Empty, Room, with-other, with-mark, emptied-here, emptySlots-other, emptySlots-here, flush-others, flush-here}
+use Rattle.trees.proofs.Slots.{SameSlot, Room, with-other, with-mark, emptySlots-other, emptySlots-here, flush-others, flush-here}
 use Rattle.keeps.proofs.Alikes.{Same, same-refl, same-trans, same-store}
 use Rattle.keeps.proofs.Right.{Mapped, Right, able, room}
 use Rattle.keeps.proofs.Takes.{Takes, invlpg-takes, cr3-takes, cr3-root}
-use Rattle.keeps.proofs.Events.{accepted-mapped, Kind, store, invlpg, cr3, access, begin, extend, loss, kinds}
-use Rattle.keeps.proofs.Theorems.{right-after, words-after}
+use Rattle.keeps.proofs.Events.{accepted-mapped}
 use Rattle.promise.proofs.Holds.{U, ends, Holds, Pathed, Slotted, stay-path, stay-slot, same-path, no-path, same-slot, no-slot, other-unended, page-unended, quiet-unended, words-store, words-kept, cr3-written, cr3-other, cr3-kept}
 
 module _ (z : Sizes) (map start cr3s : List ℕ) (es : List Event) (k : ℕ) (s : State) (h : Holds z map start cr3s es k s)

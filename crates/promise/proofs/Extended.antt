@@ -2,14 +2,11 @@
 use mathlib.Core.Path.{_≡_, refl, sym, ap, subst, _∙_}
 use mathlib.Core.List.{List}
 use mathlib.Core.Bool.{true}
-use Prim.Native.Nat.{ℕ, zero, suc, _+_, _-_, _*_, _^_, _≤_, _<_}
-use native.Mathlib.Decide.{ℕ-discrete}
+use Prim.Native.Nat.{ℕ, suc, _-_, _^_, _<_}
 use native.Mathlib.Omega.{arith}
-use lib.ListN.{length, getD}
 use Rattle.paging.specs.declared.Guest.{Guest}
-use Rattle.paging.specs.declared.Origin.{Origin}
 use Rattle.paging.specs.declared.Origin.the-variants.{Of}
-use Rattle.paging.specs.Frame.{guest, host, hostOf, originOf, mapFits}
+use Rattle.paging.specs.Frame.{guest, host, hostOf, originOf}
 use Rattle.paging.specs.Layout.{tables64, frameOf, rightsOf, isPresent}
 use Rattle.paging.specs.Walk.{meet}
 use Rattle.paging.proofs.Frames.{fits-distinct, origin-host}
@@ -17,16 +14,15 @@ use Rattle.paging.proofs.Rights.{meet-small}
 use Rattle.rules.specs.declared.Event.{Event}
 use Rattle.rules.specs.History.{eventAt}
 use Rattle.tables.specs.declared.Sizes.{Sizes}
-use Rattle.tables.specs.State.{Machine, State, stateOf, machine64, slotCount, markOf, pageIn, placeIn, rightsIn, withSlot, nextEntry, pathTo, Sized}
+use Rattle.tables.specs.State.{Machine, State, stateOf, machine64, markOf, pageIn, placeIn, rightsIn, withSlot, nextEntry, pathTo}
 use Rattle.tables.proofs.Counts.{by-cases}
 use Rattle.shadow.specs.After.{afterExtend, callRefusal}
 use Rattle.shadow.proofs.Accepted.{accepted-map}
-use Rattle.trees.proofs.Slots.{SameSlot, with-other, with-mark, with-page, with-place, with-rights}
+use Rattle.trees.proofs.Slots.{with-other, with-mark, with-page, with-place, with-rights}
 use Rattle.keeps.proofs.Alikes.{same-refl}
-use Rattle.keeps.proofs.Right.{Mapped}
-use Rattle.keeps.proofs.Moves.{mark, page, path, next, paged, Moves, extends, place-complete}
+use Rattle.keeps.proofs.Moves.{paged, Moves, extends, place-complete}
 use Rattle.promise.proofs.Settles.{Backed}
-use Rattle.promise.proofs.Holds.{seen, endOf, pathOf, Holds, Slotted, Behind, stay-backed, no-slot, quiet-unended}
+use Rattle.promise.proofs.Holds.{seen, endOf, pathOf, Holds, Behind, stay-backed, quiet-unended}
 use Rattle.promise.proofs.Carries.{After, sized, fits, hp, here, one-slot, still}
 
 module _ (z : Sizes) (map start cr3s : List ℕ) (es : List Event) (k : ℕ) (s : State) (h : Holds z map start cr3s es k s)

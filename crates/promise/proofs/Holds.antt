@@ -1,25 +1,23 @@
 -- THE INVARIANT of demand 3: what the machine holds at a moment, seen from the rules.
 use mathlib.Core.Path.{_≡_, refl, sym, ap, subst, _∙_}
-use mathlib.Core.Bool.{Bool, true, false, cond, not, _&&_, _||_}
+use mathlib.Core.Bool.{Bool, true, false, cond, _&&_, _||_}
 use mathlib.Core.List.{List}
-use Prim.Native.Nat.{ℕ, zero, suc, _+_, _*_, _^_, _≤_, _<_}
-use native.Mathlib.Omega.{arith}
-use lib.Dec.{T, eqb}
+use Prim.Native.Nat.{ℕ, suc, _*_, _^_, _<_}
+use lib.Dec.{eqb}
 use lib.ListN.{length, getD, set}
 use borrow.Author.Tests.{eq-eqb, ne-eqb}
 use Rattle.paging.specs.declared.Guest.{Guest}
-use Rattle.paging.specs.declared.Walk.{Walk}
 use Rattle.paging.specs.Frame.{guest}
 use Rattle.paging.specs.Layout.{tables64, frameWords, pageOf, frameOf, rightsOf, isPresent}
 use Rattle.paging.specs.Walk.{meet}
 use Rattle.paging.proofs.Tests.{false-T}
 use Rattle.rules.specs.declared.Event.{Event}
-use Rattle.rules.specs.History.{Setup, setup64, isStore, isInvlpg, isCr3Write, isBy, eventAt, wordsAt, cr3At}
+use Rattle.rules.specs.History.{Setup, setup64, isInvlpg, isCr3Write, isBy, eventAt, wordsAt, cr3At}
 use Rattle.rules.specs.View.{View, viewOf, endsCompleteOf}
-use Rattle.rules.proofs.Steps.{Kept, stay, byLevel}
+use Rattle.rules.proofs.Steps.{stay}
 use Rattle.tables.specs.declared.Sizes.{Sizes}
 use Rattle.tables.specs.declared.Path.{Path}
-use Rattle.tables.specs.State.{Machine, Shadow, State, stateOf, machine64, slotCount, markOf, pageIn, placeIn, rightsIn, rootOf, nextEntry, pathTo}
+use Rattle.tables.specs.State.{Machine, State, machine64, slotCount, markOf, pageIn, placeIn, rightsIn, rootOf, nextEntry, pathTo}
 use Rattle.trees.proofs.Trees.{shd}
 use Rattle.trees.proofs.Paths.{FullSame}
 use Rattle.trees.proofs.Slots.{SameSlot}

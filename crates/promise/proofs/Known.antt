@@ -1,8 +1,8 @@
 -- Document 01's own run meets the hypotheses of demand 3, and its answers are computed: both branches are there.
 use mathlib.Core.Path.{_≡_, refl, sym, ap, ap₂, _∙_}
 use mathlib.Core.Bool.{Bool, true, false, _&&_}
-use mathlib.Core.List.{List, [], _∷_}
-use mathlib.Core.Logic.{_⊎_, inl, inr}
+use mathlib.Core.List.{List, _∷_}
+use mathlib.Core.Logic.{inl, inr}
 use Prim.Native.Nat.{ℕ, zero, suc, _*_, _≤_, _<_}
 use native.Mathlib.Omega.{arith}
 use lib.Dec.{eqb, ltb}
@@ -21,7 +21,7 @@ use Rattle.paging.proofs.Tests.{both}
 use Rattle.shadow.specs.After.{Result, rangesFit, lengthsFit, poolFits, inPool, framesFit, rooted, setupRefusal}
 use Rattle.keeps.proofs.Events as events
 use Rattle.promise.specs.Demand as D
-use Rattle.promise.specs.Demand.{Fresh, Run, machineOf, guestOf, losing, does, stateAt, before, answerAt, Says, place, code, Settles, SettlesInTwo}
+use Rattle.promise.specs.Demand.{Fresh, Run, machineOf, guestOf, losing, stateAt, before, answerAt, Says, place, code, Settles, SettlesInTwo}
 use Rattle.promise.specs.Known.{KnownRun, runOf, stored, narrowed}
 use Rattle.promise.proofs.Quick.{quickly, quickAt, quickAnswer, stored-quick, narrowed-quick}
 use Rattle.promise.proofs.Runs.{accepted}

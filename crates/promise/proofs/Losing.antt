@@ -1,16 +1,16 @@
 -- Slots may be lost at any moment: each is then empty or as it was, and the invariant stays.
-use mathlib.Core.Path.{_≡_, refl, sym, ap, _∙_}
+use mathlib.Core.Path.{_≡_, refl, _∙_}
 use mathlib.Core.List.{List}
 use mathlib.Core.Bool.{Bool, true, false, cond}
 use mathlib.Core.Logic.{_⊎_, inl, inr}
-use Prim.Native.Nat.{ℕ, zero, suc, _+_, _*_, _≤_, _<_}
+use Prim.Native.Nat.{ℕ, zero, suc, _*_, _≤_, _<_}
 use native.Mathlib.Decide.{ℕ-discrete}
 use native.Mathlib.Omega.{arith}
 use lib.ListN.{length}
 use Rattle.paging.specs.Numbers.{each}
 use Rattle.rules.specs.declared.Event.{Event}
 use Rattle.tables.specs.declared.Sizes.{Sizes}
-use Rattle.tables.specs.State.{Machine, State, machine64, slotCount, emptied}
+use Rattle.tables.specs.State.{State, machine64, slotCount, emptied}
 use Rattle.tables.proofs.Counts.{by-cases}
 use Rattle.trees.proofs.Slots.{SameSlot, Empty, Room, same-self, same-on, same-empty, with-length, with-other, emptied-here, Local, each-length, each-other, each-here}
 use Rattle.trees.proofs.SlotRules.{empty-right, same-right}

@@ -1,19 +1,14 @@
 -- From a fresh machine: the invariant holds at every moment of a run, and every event that fits is taken.
-use mathlib.Core.Path.{_≡_, refl, sym, ap, _∙_}
-use mathlib.Core.List.{List}
-use mathlib.Core.Bool.{Bool, true, false, _&&_}
-use Prim.Native.Nat.{ℕ, zero, suc, _+_, _*_, _^_, _≤_, _<_}
+use mathlib.Core.Path.{_≡_, sym, _∙_}
+use mathlib.Core.Bool.{true, _&&_}
+use Prim.Native.Nat.{ℕ, zero, suc, _≤_, _<_}
 use native.Mathlib.Omega.{arith}
 use lib.Dec.{eqb}
-use lib.ListN.{length, getD}
-use Rattle.paging.specs.Layout.{frameWords}
-use Rattle.rules.specs.declared.Event.{Event}
-use Rattle.rules.specs.History.{Fit, eventAt, eventRefusal, wordsAt, cr3At}
+use lib.ListN.{length}
+use Rattle.rules.specs.History.{Fit, eventAt, wordsAt, cr3At}
 use Rattle.tables.specs.declared.Sizes.{Sizes}
-use Rattle.tables.specs.State.{Machine, State, machine64, slotCount, markOf, nextEntry, pathTo, Sized}
-use Rattle.shadow.specs.declared.Answer.{Answer}
-use Rattle.shadow.specs.declared.Answer.the-variants.{Refused}
-use Rattle.shadow.specs.After.{Result, rangesFit, lengthsFit, framesFit, callRefusal, after, afterInvlpg, afterCr3, afterBegin, afterLoss}
+use Rattle.tables.specs.State.{State, machine64, Sized}
+use Rattle.shadow.specs.After.{rangesFit, lengthsFit, framesFit, callRefusal}
 use Rattle.paging.proofs.Tests.{both}
 use Rattle.shadow.proofs.Sizing.{Ranged, ranged}
 use Rattle.shadow.proofs.Starting.{accepted-sizes, setup-exact, setup-sized}
@@ -25,7 +20,7 @@ use Rattle.keeps.proofs.Right.{Mapped, Right}
 use Rattle.keeps.proofs.Events.{mapped}
 use Rattle.keeps.proofs.Accepts.{same-tests, accepts}
 use Rattle.promise.specs.Demand as D
-use Rattle.promise.specs.Demand.{Fresh, Run, machineOf, guestOf, stateAt, before, losing}
+use Rattle.promise.specs.Demand.{Fresh, Run, guestOf, stateAt, before}
 use Rattle.promise.proofs.Begun.{begun-entries, begun-frame, begun-slots, begun-triples, begun-trees}
 use Rattle.promise.proofs.Holds.{Holds, no-path, no-slot}
 use Rattle.promise.proofs.Carried.{carried}

@@ -1,40 +1,36 @@
 -- An access that is not to be put again answers what stands in the list.
-use mathlib.Core.Path.{_≡_, refl, sym, ap, subst, _∙_}
-use mathlib.Core.List.{List}
-use mathlib.Core.Bool.{Bool, true, false, _&&_}
+use mathlib.Core.Path.{_≡_, sym, ap, subst, _∙_}
+use mathlib.Core.Bool.{true, _&&_}
 use mathlib.Core.Logic.{_⊎_, inl, inr}
-use Prim.Native.Nat.{ℕ, zero, suc, _+_, _*_, _^_, _≤_, _<_}
+use Prim.Native.Nat.{ℕ, _+_, _<_}
 use native.Mathlib.Omega.{arith}
-use lib.Dec.{eqb, T}
-use lib.ListN.{length, getD}
+use lib.Dec.{eqb}
+use lib.ListN.{length}
 use borrow.Author.Tests.{eqb-true}
 use Rattle.paging.specs.declared.Guest.{Guest}
-use Rattle.paging.specs.declared.Walk.{Walk}
 use Rattle.paging.specs.declared.Request.{Request}
 use Rattle.paging.specs.Frame.{guest, host, hostOf}
-use Rattle.paging.specs.Layout.{tables64, pageOf, frameOf}
+use Rattle.paging.specs.Layout.{tables64, pageOf}
 use Rattle.paging.specs.Request.{requestOf, enough}
 use Rattle.paging.proofs.Layouts.{tables64-sound}
 use Rattle.paging.proofs.Rights.{request-small}
 use Rattle.rules.specs.declared.Event.{Event}
 use Rattle.rules.specs.declared.Outcome.{Outcome}
-use Rattle.rules.specs.declared.Outcome.the-variants.{Address as address, Fault as fault}
 use Rattle.rules.specs.History.{Fit, eventAt}
 use Rattle.rules.specs.Outcome.{Permitted}
 use Rattle.rules.proofs.Theorems.{a-list}
 use Rattle.tables.specs.declared.Sizes.{Sizes}
 use Rattle.tables.specs.declared.Walked.{Walked}
-use Rattle.tables.specs.declared.Walked.the-variants.{Whole, Fault}
-use Rattle.tables.specs.State.{Machine, State, machine64, slotCount, markOf, pageIn, placeIn, rightsIn}
+use Rattle.tables.specs.declared.Walked.the-variants.{Fault}
+use Rattle.tables.specs.State.{State, machine64, slotCount, markOf, pageIn, placeIn, rightsIn}
 use Rattle.tables.specs.Steps.{slotServes}
-use Rattle.shadow.specs.declared.Answer.{Answer}
 use Rattle.shadow.specs.declared.Answer.the-variants.{Again, Address, Fault as Faulted}
 use Rattle.shadow.specs.After.{Result, valueAt, after}
 use Rattle.paging.proofs.Tests.{both}
 use Rattle.shadow.proofs.Accepted.{accepted-own}
 use Rattle.trees.proofs.SlotRules.{right-complete}
 use Rattle.keeps.proofs.Moves.{page-small}
-use Rattle.keeps.proofs.Accesses.{walked, Way, slot, shadow, fault as faulted, lacks, again, ways}
+use Rattle.keeps.proofs.Accesses.{Way, slot, shadow, fault as faulted, lacks, again, ways}
 use Rattle.keeps.proofs.Events.{Kind, store, invlpg, cr3, access, begin, extend, loss, kinds}
 use Rattle.promise.specs.Demand as D
 use Rattle.promise.specs.Demand.{Fresh, Run, guestOf, before, answerAt, questionAt, Says, place, code, Settles}

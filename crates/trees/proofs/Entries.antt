@@ -1,21 +1,16 @@
 -- What one store into an entry or a record does to all of them, and what an entry names.
 use mathlib.Core.Path.{_≡_, refl, sym, ap, _∙_}
-use mathlib.Core.Bool.{Bool, true, false, cond, _&&_}
+use mathlib.Core.Bool.{true}
 use mathlib.Core.List.{List, [], _∷_}
-use mathlib.Core.Logic.{_⊎_, inl, inr}
-use Prim.Native.Nat.{ℕ, zero, suc, _+_, _-_, _*_, _/_, _%_, _^_, _≤_, _<_}
-use native.Mathlib.Decide.{ℕ-discrete}
+use Prim.Native.Nat.{ℕ, zero, suc, _+_, _-_, _*_, _^_, _≤_, _<_}
 use native.Mathlib.Omega.{arith}
-use lib.Dec.{eqb, ltb, leb}
 use lib.ListN.{length, getD, set, length-set}
-use lib.Pow.{pow-pos}
 use lib.Seq.{getD-set-same, getD-set-other}
-use borrow.Author.Tests.{lt-ltb, le-leb}
 use Rattle.paging.specs.declared.Guest.{Guest}
-use Rattle.paging.specs.Layout.{frameWords, tables64, bit, get, put, frameOf, rightsOf, compose, isPresent}
+use Rattle.paging.specs.Layout.{frameWords, bit, get, frameOf, rightsOf, compose, isPresent}
 use Rattle.paging.proofs.Layouts.{tables64-sound, length-put, get-put, get-put-other, composed-present, composed-rights}
 use Rattle.tables.specs.declared.Sizes.{Sizes}
-use Rattle.tables.specs.State.{Machine, Shadow, shadowOf, onPool, onRecords, machine64, levelOf, shadows, withRecord, tableCount, entryCount, entryOf, withEntry, named, Sized}
+use Rattle.tables.specs.State.{Machine, Shadow, onPool, onRecords, machine64, withRecord, tableCount, entryCount, withEntry, named, Sized}
 use Rattle.tables.proofs.Names.{named-absent, named-on}
 use Rattle.trees.proofs.Trees.{Able, Exact, ent, lev, shd}
 

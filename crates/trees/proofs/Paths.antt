@@ -5,16 +5,13 @@ use mathlib.Core.Bool.{true}
 use mathlib.Core.List.{List}
 use mathlib.Core.Logic.{_⊎_, inl, inr}
 use Prim.Native.Nat.{ℕ, zero, suc, _+_, _-_, _≤_, _<_}
-use native.Mathlib.Nat.{mul-div-cancel, mul-lt-mul-of-pos-right}
 use native.Mathlib.Decide.{decLt}
 use native.Mathlib.Omega.{arith}
-use lib.Dec.{eqb}
-use borrow.Author.Tests.{eq-eqb, eqb-true}
+use borrow.Author.Tests.{eqb-true}
 use Rattle.paging.specs.Layout.{bit, index, isPresent}
 use Rattle.paging.proofs.Indices.{index-small}
 use Rattle.tables.specs.declared.Path.{Path}
-use Rattle.tables.specs.State.{Machine, Shadow, tableCount, ownerOf, rootOf, entryCount, named, top, nextEntry, down, descend, pathTo}
-use Rattle.lawful.specs.Rules.{isRoot}
+use Rattle.tables.specs.State.{Machine, Shadow, tableCount, ownerOf, entryCount, named, top, nextEntry, down, descend, pathTo}
 use Rattle.trees.proofs.Trees.{Able, Outside, Exact, ent, lev, Names, Trees, Less, Same}
 use Rattle.trees.proofs.Entries.{zero-names}
 use Rattle.trees.proofs.Falls.{falls, same-owner}
