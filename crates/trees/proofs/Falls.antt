@@ -3,7 +3,7 @@ use mathlib.Core.Path.{_≡_, refl, sym, ap, _∙_}
 use mathlib.Core.Bool.{Bool, true, false, cond}
 use mathlib.Core.List.{List, [], _∷_}
 use mathlib.Core.Logic.{_⊎_, inl, inr}
-use Prim.Native.Nat.{ℕ, zero, suc, _+_, _<_}
+use Prim.Native.Nat.{ℕ, suc, _+_, _<_}
 use native.Mathlib.Decide.{decLt}
 use native.Mathlib.Omega.{arith}
 use lib.Dec.{eqb}
@@ -17,6 +17,7 @@ use Rattle.paging.proofs.Tests.{both}
 use Rattle.tables.specs.State.{Machine, Shadow, tableCount, ownerOf, named}
 use Rattle.tables.proofs.Names.{named-absent, named-low, named-past}
 use Rattle.lawful.specs.Rules.{isOf, isMapped, isMadeWith, isLeaf}
+use Rattle.trees.proofs.Tests.{zero-one-more}
 use Rattle.trees.proofs.Trees.{Outside, ent, lev, Names, Branch, Trees}
 use Rattle.trees.proofs.Entries.{zero-names-none}
 
@@ -60,14 +61,9 @@ module _ (M : Machine) (map : List ℕ) (outside : Outside M map) where
       by false away = none (named-absent M e away)
 
   module _ (s : Shadow) (trees : Trees M map s) where
-    zero-or-more : (n : ℕ) → (n ≡ 0) ⊎ ((n ≡ 1) ⊎ (1 < n))
-    zero-or-more zero = inl refl
-    zero-or-more (suc zero) = inr (inl refl)
-    zero-or-more (suc (suc n)) = inr (inr (omega arith))
-
     -- WHO NAMES A TABLE STANDS ABOVE LEVEL 1, AND IT IS A BRANCH
     pub names-branch : {t i u : ℕ} → Names M s t i u → (1 < lev M s t) × Branch M s t (ent M s t i)
-    names-branch {t} {i} {u} m = go (zero-or-more (lev M s t))
+    names-branch {t} {i} {u} m = go (zero-one-more (lev M s t))
       where
         named-some : named M (ent M s t i) < tableCount M
         named-some = rw (m .names) (m .is)
