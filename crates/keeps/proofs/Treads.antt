@@ -60,9 +60,12 @@ module _ (z : Sizes) (page : ℕ) (words : List ℕ) where
       fault : {k : ℕ} {A : Type 0} {last : Guest} {w′ : Walk} → Fault k ≡ Whole last w′ → A
       fault e = let z : _≡_ {A = ℕ} 0 1 = cc in absurd (omega arith)
 
+      on-from : Walk → Trod
+      on-from w′ = walkFrom tables64 (z .frames) page n (put tables64 now (w .frame .0) i (markA e)) (w .frame) w′
+
       by : (r : Step) → step tables64 (z .frames) w e ≡ r
-          → ((w′ : Walk) → step tables64 (z .frames) w e ≡ On w′ → Treads n (w .frame) (w′ .frame) (w′ .rights) (walkFrom tables64 (z .frames) page n (put tables64 now (w .frame .0) i (markA e)) (w .frame) w′))
-          → Treads (suc n) from (w .frame) (w .rights) (byStep now from w (λ w′. walkFrom tables64 (z .frames) page n (put tables64 now (w .frame .0) i (markA e)) (w .frame) w′) r)
+          → ((w′ : Walk) → step tables64 (z .frames) w e ≡ On w′ → Treads n (w .frame) (w′ .frame) (w′ .rights) (on-from w′))
+          → Treads (suc n) from (w .frame) (w .rights) (byStep now from w on-from r)
       by (On w′) on more = record {
         same = more w′ on .same;
         leads = λ last w″ q.

@@ -34,7 +34,8 @@ serves-by z p page q s s′ e sv = record {
       ∙ sv .good;
 }
 
-module _ (z : Sizes) (map : List ℕ) (s : State) (e : Event) (ok : callRefusal (machine64 z) map s e ≡ 0) (p page : ℕ) (hp : p < z .processors) (q : Request) (sv : Serves z s p page q) where
+module _ (z : Sizes) (map : List ℕ) (s : State) (e : Event) (ok : callRefusal (machine64 z) map s e ≡ 0) (p page : ℕ) (hp : p < z .processors) (q : Request)
+    (sv : Serves z s p page q) where
   abbrev M : Machine
   M = machine64 z
 
@@ -54,7 +55,8 @@ module _ (z : Sizes) (map : List ℕ) (s : State) (e : Event) (ok : callRefusal 
   spare = accepted-ranged z map s e ok .share .0
 
   -- another processor's work on its own tables
-  apart : (s′ : State) → Trees M map (s′ .shadow) → (e .proc ≡ p → ⊥) → ((v : ℕ) → v < tableCount M → (ownerOf M v ≡ e .proc → ⊥) → Same M (s .shadow) (s′ .shadow) v) → Serves z s′ p page q
+  apart : (s′ : State) → Trees M map (s′ .shadow) → (e .proc ≡ p → ⊥)
+      → ((v : ℕ) → v < tableCount M → (ownerOf M v ≡ e .proc → ⊥) → Same M (s .shadow) (s′ .shadow) v) → Serves z s′ p page q
   apart s′ trees ne others =
       let same : (v : ℕ) → v < tableCount M → ownerOf M v ≡ p → Same M (s .shadow) (s′ .shadow) v = λ v hv o. others v hv (λ x. ne (sym x ∙ o)) in
       let path = same-path M (able z sized map fits) map (fits .outside) (s .shadow) (s′ .shadow) (right .law .trees) (trees .exact) page p hp same 3 (omega arith) in

@@ -91,22 +91,22 @@ module _ (M : Machine) (ok : Able M) (map : List ℕ) (outside : Outside M map) 
     leaf : (t : ℕ) (g : Guest) (s : Shadow) → Trees M map s → Stands s 0 t g
         → Built s (onPool (withEntry M t (index Y page 1) (leafOf Y map (guestEntry Y words page 1 g))) s)
     leaf t g s trees h = record {
-      trees = leaf-trees M ok map outside s trees t (index Y page 1) (leafOf Y map e) (h .table) (leveled s trees h .0) (index-small Y page 1) (made .small) (inr (made .leaf));
+      trees = leaf-trees M ok map outside s trees t (index Y page 1) new (h .table) level (index-small Y page 1) (made .small) (inr (made .leaf));
       stays = record {
         others = λ v hv ne. record {
-          entries = λ i hi. leaf-beside M ok map outside s trees t (index Y page 1) (leafOf Y map e) (h .table) (leveled s trees h .0) (index-small Y page 1) (made .small) (inr (made .leaf)) v i hi
+          entries = λ i hi. leaf-beside M ok map outside s trees t (index Y page 1) new (h .table) level (index-small Y page 1) (made .small) (inr (made .leaf)) v i hi
               (λ q r. ne (ap (ownerOf M) q ∙ leveled s trees h .1));
           level = refl;
           frame = refl;
         };
         root = refl;
       };
-      old = record { full = λ p′ hp′ v hv ne here. leaf-full M ok map outside s trees p hp page t (leafOf Y map e) (h .table) (leveled s trees h .0) at-t (made .small) p′ v hp′ paged hv ne };
+      old = record { full = λ p′ hp′ v hv ne here. leaf-full M ok map outside s trees p hp page t new (h .table) level at-t (made .small) p′ v hp′ paged hv ne };
       own = record {
         table = t;
         rights = h .rights;
-        path = leaf-path M ok map outside s trees p hp page t (leafOf Y map e) (h .table) (leveled s trees h .0) at-t (made .small) p page hp ∙ h .path;
-        is = leaf-here M ok map outside s trees p hp page t (leafOf Y map e) (h .table) (leveled s trees h .0) at-t (made .small) ∙ ap (leafOf Y map) here;
+        path = leaf-path M ok map outside s trees p hp page t new (h .table) level at-t (made .small) p page hp ∙ h .path;
+        is = leaf-here M ok map outside s trees p hp page t new (h .table) level at-t (made .small) ∙ ap (leafOf Y map) here;
         present = rw here at (h .leads .0);
         inside = rw here at (h .leads .1);
         frame = ap (λ (y : ℕ). guest (frameOf Y y)) (sym here) ∙ h .leads .3 .0;
@@ -120,7 +120,13 @@ module _ (M : Machine) (ok : Able M) (map : List ℕ) (outside : Outside M map) 
         here : e ≡ entry
         here = ap (guestEntry Y words page 1) (h .leads .2 refl)
 
-        made : Filled M map e (leafOf Y map e)
+        new : ℕ
+        new = leafOf Y map e
+
+        level : lev M s t ≡ 1
+        level = leveled s trees h .0
+
+        made : Filled M map e new
         made = leafOf-right M ok map within e (rw guests (h .leads .1))
 
         at-t : pathTo M (s .pool) p page 1 .table ≡ t
@@ -183,9 +189,14 @@ module _ (M : Machine) (ok : Able M) (map : List ℕ) (outside : Outside M map) 
           hang-others M ok map outside s trees t i u (suc m) (guest (frameOf Y e)) (rightsOf Y e) (h .table) (index-small Y page (suc (suc m))) level (omega arith) absent
           u-in u-free (u-own ∙ sym owner) (h .leads .1) (rights-small Y e) grants
 
+      still-stands : Stands s₁ (suc m) t g
+      still-stands =
+          settling.carried M ok map outside words p hp page last f x trees hung-trees h
+          (λ v hv above k hk. hung-beside v k hk (λ q r. omega (arith, level, ap (lev M s) q)))
+
       hung-stands : Stands s₁ m u (guest (frameOf Y e))
       hung-stands =
-          settling.further M ok map outside words p hp page last f x (settling.carried M ok map outside words p hp page last f x trees hung-trees h (λ v hv above k hk. hung-beside v k hk (λ q r. omega (arith, level, ap (lev M s) q)))) u u-in
+          settling.further M ok map outside words p hp page last f x still-stands u u-in
           (ap (named M) hung-entry ∙ made-names M ok (rightsOf Y e) u (rights-small Y e) u-in)
           (ap (rightsOf Y) hung-entry ∙ made-rights M ok (rightsOf Y e) u (rights-small Y e) u-in grants)
 
@@ -209,7 +220,8 @@ module _ (M : Machine) (ok : Able M) (map : List ℕ) (outside : Outside M map) 
       hung-old : Old s s₁
       hung-old = record {
         full = λ p′ hp′ v hv ne here.
-            hang-full M ok map outside s trees t i u (suc m) (guest (frameOf Y e)) (rightsOf Y e) (h .table) (index-small Y page (suc (suc m))) u-in (rights-small Y e) (omega (arith, level)) u-free v p′ hp′ here;
+            hang-full M ok map outside s trees t i u (suc m) (guest (frameOf Y e)) (rightsOf Y e) (h .table) (index-small Y page (suc (suc m))) u-in (rights-small Y e)
+            (omega (arith, level)) u-free v p′ hp′ here;
       }
 
     -- all missing tables, then the level 1 entry

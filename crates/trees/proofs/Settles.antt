@@ -132,6 +132,36 @@ module _ (M : Machine) (ok : Able M) (map : List ℕ) (outside : Outside M map) 
     leads = h .leads;
   }
 
+  -- where the entries differ settling ends: what hangs there is cut
+  module _ (s : Shadow) (trees : Trees M map s) {m t : ℕ} {g : Guest} (h : Stands s (suc m) t g) where
+    abbrev i : ℕ
+    i = index Y page (suc (suc m))
+
+    hi : i < entryCount M
+    hi = index-small Y page (suc (suc m))
+
+    level : lev M s t ≡ suc (suc m)
+    level = leveled s trees h .0
+
+    kept : Trees M map (cut M (suc m) t i s)
+    kept = cut-trees M ok map outside s trees t i (suc m) (h .table) hi level (omega arith)
+
+    upper : (v : ℕ) → v < tableCount M → lev M s t < lev M s v → Same M s (cut M (suc m) t i s) v
+    upper = cut-upper M ok map outside s trees t i (suc m) (h .table) hi level (omega arith)
+
+    ends : Settling s (settledAt (spot (suc m) t g) (cut M (suc m) t i s))
+    ends = record {
+      trees = kept;
+      less = cut-less M ok map outside s trees t i (suc m) (h .table) hi level (omega arith);
+      stays = record {
+        others = λ v hv ne. cut-others M ok map outside s trees t i (suc m) (h .table) hi level (omega arith) v hv (λ q. ne (q ∙ leveled s trees h .1));
+        root = cut-root s trees t i (suc m) (h .table) hi level (omega arith);
+      };
+      stands = carried trees kept h (λ v hv above k hk. upper v hv (omega (arith, level)) .entries k hk);
+      absent = λ l. cut-gone M ok map outside s trees t i (suc m) (h .table) hi level (omega arith);
+    }
+
+  -- SETTLING KEEPS THE TREES, and stands where the path ends
   pub settles : (m t : ℕ) (g : Guest) (s : Shadow) → Trees M map s → Stands s m t g → Settling s (settle M words page m t g s)
   unfolding settle
   settles zero t g s trees h = record {
@@ -154,35 +184,17 @@ module _ (M : Machine) (ok : Able M) (map : List ℕ) (outside : Outside M map) 
       spelt : settle M words page (suc m) t g s ≡ by-level (suc (suc m))
       spelt = let q : m + 2 ≡ suc (suc m) = omega arith in ap by-level q
 
-      i : ℕ
-      i = index Y page (suc (suc m))
-
       e : ℕ
-      e = ent M s t i
+      e = ent M s t (index Y page (suc (suc m)))
 
       c : ℕ
       c = guestEntry Y words page (suc (suc m)) g
 
-      level : lev M s t ≡ suc (suc m)
-      level = leveled s trees h .0
-
-      owner : ownerOf M t ≡ p
-      owner = leveled s trees h .1
-
       go : (b : Bool) → agrees M (s .records) e c ≡ b
           → (Stands s m (named M e) (guest (frameOf Y c)) → Settling s (settle M words page m (named M e) (guest (frameOf Y c)) s))
-          → Settling s (cond b (settle M words page m (named M e) (guest (frameOf Y c)) s) (settledAt (spot (suc m) t g) (cut M (suc m) t i s)))
+          → Settling s (cond b (settle M words page m (named M e) (guest (frameOf Y c)) s) (settledAt (spot (suc m) t g) (cut M (suc m) t (index Y page (suc (suc m))) s)))
       go true q more =
           let a = both (ltb (named M e) (tableCount M) && eqb (rightsOf Y e) (rightsOf Y c)) _ q in
           let b = both (ltb (named M e) (tableCount M)) (eqb (rightsOf Y e) (rightsOf Y c)) (a .0) in
           more (further h (named M e) (ltb-true (named M e) (tableCount M) (b .0)) refl (eqb-true (rightsOf Y e) (rightsOf Y c) (b .1)))
-      go false q more = record {
-        trees = cut-trees M ok map outside s trees t i (suc m) (h .table) (index-small Y page (suc (suc m))) level (omega arith);
-        less = cut-less M ok map outside s trees t i (suc m) (h .table) (index-small Y page (suc (suc m))) level (omega arith);
-        stays = record {
-          others = λ v hv ne. cut-others M ok map outside s trees t i (suc m) (h .table) (index-small Y page (suc (suc m))) level (omega arith) v hv (λ q. ne (q ∙ owner));
-          root = cut-root s trees t i (suc m) (h .table) (index-small Y page (suc (suc m))) level (omega arith);
-        };
-        stands = carried trees (cut-trees M ok map outside s trees t i (suc m) (h .table) (index-small Y page (suc (suc m))) level (omega arith)) h (λ v hv above k hk. cut-upper M ok map outside s trees t i (suc m) (h .table) (index-small Y page (suc (suc m))) level (omega arith) v hv (omega (arith, level)) .entries k hk);
-        absent = λ l. cut-gone M ok map outside s trees t i (suc m) (h .table) (index-small Y page (suc (suc m))) level (omega arith);
-      }
+      go false q more = ends s trees h
