@@ -1,4 +1,4 @@
--- Every accepted event carries the invariant to the next moment.
+-- The invariant is carried to the next moment, kind by kind: store, INVLPG, CR3 write, begin and a slot that is lost.
 use mathlib.Core.Path.{_≡_, refl, sym, ap, subst, _∙_}
 use mathlib.Core.Bool.{false}
 use mathlib.Core.List.{List}

@@ -1,4 +1,4 @@
--- A slot that is extended from level 1 holds what its page's path holds.
+-- Extend carries the invariant: a slot that is extended from level 1 holds what its page's path holds.
 use mathlib.Core.Path.{_≡_, refl, sym, ap, subst, _∙_}
 use mathlib.Core.List.{List}
 use mathlib.Core.Bool.{true}

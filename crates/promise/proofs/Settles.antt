@@ -1,4 +1,4 @@
--- From held walks to the list: what a slot, a shadow path or the guest's tables answer stands in the right list.
+-- From held walks to outcomes: an address that a held walk backs is permitted, and so are the faults of held walks.
 use mathlib.Core.Path.{_≡_, refl}
 use mathlib.Core.Bool.{true, false}
 use mathlib.Core.List.{List·Memᴰ·head}

@@ -1,4 +1,5 @@
--- Tests at all numbers from each of them; the first that passes passes; and a count over pairs is 1 exactly if one pair passes and any two that pass are equal.
+-- Searches and counts: a test passes at all numbers if it passes at each, the first number found passes, and a count over
+-- pairs is 1 exactly if one pair passes and any two that pass are equal.
 use mathlib.Core.Path.{_≡_, refl, ap, _∙_}
 use mathlib.Core.Bool.{Bool, true, false, cond}
 use mathlib.Core.Logic.{⊎-elim}

@@ -1,4 +1,4 @@
--- What one store into an entry or a record does to all of them, and what an entry names.
+-- The 64-bit machine is able; what one store into an entry or a record does to all of them; and what an entry names.
 use mathlib.Core.Path.{_≡_, refl, sym, ap, _∙_}
 use mathlib.Core.Bool.{true}
 use Prim.Native.Nat.{ℕ, _+_, _-_, _*_, _^_, _<_}

@@ -1,4 +1,4 @@
--- Who is named is live, of the same share and one level lower; and every table lies below the root of its share.
+-- A level 1 entry names no table; who is named is live, of its namer's share and one level lower.
 use mathlib.Core.Path.{_≡_, refl, sym, ap, _∙_}
 use mathlib.Core.Bool.{Bool, true, false, cond}
 use mathlib.Core.List.{List, [], _∷_}
