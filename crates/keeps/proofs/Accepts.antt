@@ -1,18 +1,17 @@
 -- A call is accepted where the state rules hold and its event is within the ranges.
-use mathlib.Core.Path.{_≡_, refl, sym, ap, _∙_}
-use mathlib.Core.Bool.{Bool, true, false, not, _&&_}
+use mathlib.Core.Path.{_≡_, refl, sym}
+use mathlib.Core.Bool.{true, not, _&&_}
 use mathlib.Core.List.{List, [], _∷_}
-use Prim.Native.Nat.{ℕ, _+_, _-_, _*_, _≤_, _<_}
+use Prim.Native.Nat.{ℕ, _*_}
 use native.Mathlib.Omega.{arith}
-use lib.Dec.{eqb, leb}
 use lib.ListN.{length}
 use borrow.Author.Tests.{eq-eqb, le-leb}
-use Rattle.paging.specs.Layout.{frameWords, tables64}
+use Rattle.paging.specs.Layout.{frameWords}
 use Rattle.rules.specs.declared.Event.{Event}
 use Rattle.rules.specs.Refusal.{test, refusal}
-use Rattle.rules.specs.History.{Setup, setup64, eventRefusal}
+use Rattle.rules.specs.History.{setup64, eventRefusal}
 use Rattle.tables.specs.declared.Sizes.{Sizes}
-use Rattle.tables.specs.State.{Machine, State, machine64, tableCount, Sized}
+use Rattle.tables.specs.State.{State, machine64, tableCount, Sized}
 use Rattle.shadow.specs.After.{asSetup, rangesFit, lengthsFit, framesFit, callRefusal}
 use Rattle.shadow.proofs.Sizing.{Ranged}
 use Rattle.shadow.proofs.Accepted.{call-accepted}

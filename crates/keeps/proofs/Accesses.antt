@@ -1,13 +1,10 @@
 -- The ways out of an access, and that each keeps the state rules.
-use mathlib.Core.Path.{_≡_, refl, sym, ap, _∙_}
+use mathlib.Core.Path.{_≡_, refl}
 use mathlib.Core.Bool.{Bool, true, false, cond, _&&_}
 use mathlib.Core.List.{List}
-use mathlib.Core.Logic.{_⊎_, inl, inr}
-use Prim.Native.Nat.{ℕ, zero, suc, _+_, _-_, _*_, _^_, _≤_, _<_}
-use native.Mathlib.Omega.{arith}
+use Prim.Native.Nat.{ℕ, _+_, _≤_, _<_}
 use lib.Dec.{ltb}
-use lib.ListN.{length}
-use borrow.Author.Tests.{ltb-true, ltb-false, lt-ltb, le-ltb}
+use borrow.Author.Tests.{ltb-true}
 use Rattle.paging.specs.declared.Guest.{Guest}
 use Rattle.paging.specs.declared.Walk.{Walk}
 use Rattle.paging.specs.declared.Request.{Request}
@@ -21,12 +18,12 @@ use Rattle.tables.specs.declared.Walked.{Walked}
 use Rattle.tables.specs.declared.Walked.the-variants.{Whole, Fault}
 use Rattle.tables.specs.State.{Machine, State, stateOf, machine64, slotCount, placeIn, shadows, rootOf, nextEntry, pathTo, Sized}
 use Rattle.tables.specs.Steps.{Trod, walkGuest, slotServes, servingSlot}
-use Rattle.shadow.specs.declared.Answer.{Answer}
 use Rattle.shadow.specs.declared.Answer.the-variants.{Address, Fault as Faulted, Again}
 use Rattle.shadow.specs.After.{Result, gives, valueAt, isWrite, dirtied, fill, afterAccess, afterMiss, afterWalk}
-use Rattle.trees.proofs.Fills.{Leads, first-passes}
+use Rattle.trees.proofs.Counts.{first-passes}
+use Rattle.trees.proofs.Settles.{Leads}
 use Rattle.keeps.proofs.Alikes.{Same, same-refl, same-sym, same-trans, same-mark-d}
-use Rattle.keeps.proofs.Treads.{Treads, treads}
+use Rattle.keeps.proofs.Treads.{treads}
 use Rattle.keeps.proofs.Right.{Mapped, Right, Reshaped, words-right, reshaped-right}
 use Rattle.keeps.proofs.Moves.{page-small}
 use Rattle.keeps.proofs.Filled.{Fills, fills, fill-reshapes}

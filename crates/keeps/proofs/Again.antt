@@ -1,8 +1,8 @@
 -- After a fill the page's path serves the access that asked for it: the put right after an "again" answers an address.
-use mathlib.Core.Path.{_≡_, refl, sym, ap, ap₂, _∙_}
-use mathlib.Core.Bool.{Bool, true, false, cond}
+use mathlib.Core.Path.{_≡_, sym, ap, _∙_}
+use mathlib.Core.Bool.{Bool, true, cond}
 use mathlib.Core.List.{List}
-use Prim.Native.Nat.{ℕ, zero, suc, _+_, _-_, _*_, _/_, _%_, _^_, _≤_, _<_}
+use Prim.Native.Nat.{ℕ, zero, suc, _+_, _*_, _≤_, _<_}
 use native.Mathlib.Decide.{decLt}
 use native.Mathlib.Omega.{arith}
 use lib.ListN.{length, getD, List·getD-eq-default}
@@ -22,13 +22,17 @@ use Rattle.tables.specs.State.{Machine, State, machine64, top, nextEntry, desce
 use Rattle.tables.specs.Steps.{guestEntry, leafOf}
 use Rattle.shadow.specs.declared.Answer.{Answer}
 use Rattle.shadow.specs.declared.Answer.the-variants.{Again}
-use Rattle.shadow.specs.After.{Result, gives, isWrite, dirtied, fill, afterAccess}
-use Rattle.trees.proofs.Fills.{Own}
+use Rattle.shadow.specs.After.{Result, isWrite, dirtied, fill, afterAccess}
+use Rattle.trees.proofs.Builds.{Own}
 use Rattle.trees.proofs.Leaves.{Filled, leafOf-right}
 use Rattle.trees.proofs.Paths.{path-on, zero-absent}
 use Rattle.keeps.proofs.Right.{Mapped, Right, able}
 use Rattle.keeps.proofs.Grants.{grants-less, grants-enough}
 use Rattle.keeps.proofs.Accesses.{walked, marked, filling, Way, slot, shadow, fault, lacks, again, ways}
+
+-- a result that does not answer y
+pub unlike : {A : Type 0} {out r : Result} {y : Answer} → out ≡ r → out .answer ≡ y → (r .answer ≡ y → ⊥) → A
+unlike o g ne = absurd (ne (sym (ap (λ (x : Result). x .answer) o) ∙ g))
 
 -- a path's rights are rights
 pub path-small : (M : Machine) (pool : List ℕ) (page p n : ℕ) → descend M pool page n (top M p) .rights < 8
@@ -74,7 +78,9 @@ dirty q page last words w here = go (decLt (512 * last .0 + i) (length words))
 -- page's path, from p's root, serves a request
 pub record Serves (z : Sizes) (s : State) (p page : ℕ) (q : Request) : Type 0 where
   pub here : isPresent (nextEntry (machine64 z) (s .shadow .pool) page (pathTo (machine64 z) (s .shadow .pool) p page 1)) ≡ true
-  pub good : enough q (meet (pathTo (machine64 z) (s .shadow .pool) p page 1 .rights) (rightsOf tables64 (nextEntry (machine64 z) (s .shadow .pool) page (pathTo (machine64 z) (s .shadow .pool) p page 1)))) ≡ true
+  pub good :
+      enough q (meet (pathTo (machine64 z) (s .shadow .pool) p page 1 .rights)
+      (rightsOf tables64 (nextEntry (machine64 z) (s .shadow .pool) page (pathTo (machine64 z) (s .shadow .pool) p page 1)))) ≡ true
 
 module _ (z : Sizes) (map : List ℕ) (p a b : ℕ) (s : State) (ok : Sized z) (spare : 4 ≤ z .share) (fits : Mapped z map) (hp : p < z .processors) (r : Right z map s)
     (last : Guest) (w : Walk) (e : walked z map p a b s .ended ≡ Whole last w) where
@@ -144,14 +150,11 @@ module _ (z : Sizes) (map : List ℕ) (p a b : ℕ) (s : State) (ok : Sized z) (
   abbrev Left : Result → Type 0
   Left out = out .answer ≡ Again → Serves z (out .state) p (pageOf tables64 a) (requestOf tables64 b)
 
-  unlike : {out : Result} {x : Answer} {t : State} → out ≡ gives x t → (x ≡ Again → ⊥) → Left out
-  unlike o ne g = absurd (ne (sym (ap (λ (y : Result). y .answer) o) ∙ g))
-
   way-serves : {out : Result} → Way z map p a b s out → Left out
-  way-serves (slot k h v o) = unlike o (λ g. let n : _≡_ {A = ℕ} 0 1 = cc in omega arith)
-  way-serves (shadow h v o) = unlike o (λ g. let n : _≡_ {A = ℕ} 0 1 = cc in omega arith)
-  way-serves (fault base e o) = unlike o (λ g. let n : _≡_ {A = ℕ} 0 1 = cc in omega arith)
-  way-serves (lacks last w e v o) = unlike o (λ g. let n : _≡_ {A = ℕ} 0 1 = cc in omega arith)
+  way-serves (slot k h v o) = λ g. unlike o g (λ e. let n : _≡_ {A = ℕ} 0 1 = cc in omega arith)
+  way-serves (shadow h v o) = λ g. unlike o g (λ e. let n : _≡_ {A = ℕ} 0 1 = cc in omega arith)
+  way-serves (fault base e o) = λ g. unlike o g (λ e. let n : _≡_ {A = ℕ} 0 1 = cc in omega arith)
+  way-serves (lacks last w e v o) = λ g. unlike o g (λ e. let n : _≡_ {A = ℕ} 0 1 = cc in omega arith)
   way-serves (again last w e v o) = rw o (λ g. record {
     here = end-present z map p a b s ok spare fits hp r last w e;
     good = end-enough z map p a b s ok spare fits hp r last w e (request-small b hb .0) v;

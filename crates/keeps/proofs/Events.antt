@@ -1,11 +1,10 @@
 -- An accepted call: what it is known to be, and which of the seven kinds it is.
-use mathlib.Core.Path.{_≡_, refl, sym, ap, _∙_}
-use mathlib.Core.Bool.{Bool, true, false, not, _&&_}
+use mathlib.Core.Path.{_≡_, sym, _∙_}
+use mathlib.Core.Bool.{true, false, not, _&&_}
 use mathlib.Core.List.{List}
-use Prim.Native.Nat.{ℕ, _+_, _*_, _^_, _≤_, _<_}
+use Prim.Native.Nat.{ℕ, _+_, _^_, _<_}
 use native.Mathlib.Decide.{ℕ-discrete}
 use native.Mathlib.Omega.{arith}
-use lib.Dec.{ltb, leb, eqb}
 use lib.ListN.{length, getD}
 use borrow.Author.Tests.{eq-eqb, le-leb, lt-ltb, not-true}
 use Rattle.paging.specs.Frame.{mapFits}
@@ -13,15 +12,12 @@ use Rattle.paging.specs.Numbers.{all}
 use Rattle.paging.proofs.Numbers.{all-at}
 use Rattle.paging.proofs.Tests.{both}
 use Rattle.rules.specs.declared.Event.{Event}
-use Rattle.rules.specs.History.{isCr3Write}
-use Rattle.rules.proofs.Ranges.{cr3-within}
 use Rattle.tables.specs.declared.Sizes.{Sizes}
-use Rattle.tables.specs.State.{Machine, State, machine64, tableCount, Sized}
-use Rattle.shadow.specs.After.{Result, asSetup, poolFits, inPool, framesFit, callRefusal, after, decode, moved, afterStore, afterInvlpg, afterCr3, afterAccess, afterBegin, afterExtend, afterLoss}
+use Rattle.tables.specs.State.{State, machine64, tableCount}
+use Rattle.shadow.specs.After.{Result, poolFits, inPool, framesFit, callRefusal, after, decode, moved, afterStore, afterInvlpg, afterCr3, afterAccess, afterBegin, afterExtend, afterLoss}
 use Rattle.shadow.proofs.Sizing.{hosts-below}
-use Rattle.shadow.proofs.Accepted.{accepted-ranged, accepted-exact, accepted-words, accepted-frames, accepted-sized, accepted-map, accepted-lawful, accepted-own, accepted-cr3, fitting}
+use Rattle.shadow.proofs.Accepted.{accepted-exact, accepted-frames, accepted-sized, accepted-lawful, accepted-cr3, fitting}
 use Rattle.shadow.proofs.Moves.{seventh, moved-store, moved-invlpg, moved-cr3, moved-access, moved-begin, moved-extend, moved-loss}
-use Rattle.trees.proofs.Trees.{Outside}
 use Rattle.trees.proofs.Entries.{able64}
 use Rattle.trees.proofs.Rules.{lawful-is}
 use Rattle.keeps.proofs.Right.{Mapped, Right}

@@ -1,21 +1,23 @@
 -- A fill keeps the state rules: with tables enough, or after the share is emptied.
-use mathlib.Core.Path.{_≡_, refl, sym, ap, _∙_}
+use mathlib.Core.Path.{_≡_, refl, _∙_}
 use mathlib.Core.Bool.{Bool, true, false, cond}
 use mathlib.Core.List.{List}
-use mathlib.Core.Logic.{_⊎_, inl, inr}
-use Prim.Native.Nat.{ℕ, zero, suc, _+_, _-_, _*_, _^_, _≤_, _<_}
+use mathlib.Core.Logic.{_⊎_, inl}
+use Prim.Native.Nat.{ℕ, _^_, _≤_, _<_}
 use native.Mathlib.Omega.{arith}
 use lib.Dec.{ltb}
 use lib.ListN.{length}
 use borrow.Author.Tests.{ltb-false}
 use Rattle.paging.specs.declared.Guest.{Guest}
 use Rattle.tables.specs.declared.Sizes.{Sizes}
-use Rattle.tables.specs.State.{Machine, Shadow, State, stateOf, machine64, slotCount, markOf, shadows, rootOf, Sized}
+use Rattle.tables.specs.State.{Machine, State, stateOf, machine64, slotCount, markOf, shadows, rootOf, Sized}
 use Rattle.tables.specs.Steps.{Settled, settle, build, freeCount, emptyShare, flush, emptySlots}
 use Rattle.tables.proofs.Counts.{by-cases}
 use Rattle.shadow.specs.After.{fill}
 use Rattle.shadow.proofs.Shares.{three-free}
-use Rattle.trees.proofs.Fills.{Leads, Stays, Built, filled, refilled}
+use Rattle.trees.proofs.Trees.{Able}
+use Rattle.trees.proofs.Settles.{Leads}
+use Rattle.trees.proofs.Builds.{Built, filled, refilled}
 use Rattle.trees.proofs.Slots.{SameSlot, Empty, Room, same-on, same-empty, emptySlots-length, emptySlots-other, emptySlots-here, flush-length, flush-others, flush-here}
 use Rattle.keeps.proofs.Right.{Mapped, Right, able, room, Reshaped}
 use Rattle.keeps.proofs.Takes.{flush-leaves}
@@ -24,6 +26,9 @@ module _ (z : Sizes) (ok : Sized z) (spare : 4 ≤ z .share) (map : List ℕ) (f
     (page : ℕ) (paged : page < 2 ^ 36) (last f : Guest) (x : ℕ) (leads : Leads (machine64 z) (s .words) page last f x 4 (shadows (s .shadow .records) (rootOf (machine64 z) p)) 7) where
   abbrev M : Machine
   M = machine64 z
+
+  abbrev ready : Able M
+  ready = able z ok map fits
 
   abbrev cr3 : Guest
   cr3 = shadows (s .shadow .records) (rootOf M p)
@@ -36,7 +41,7 @@ module _ (z : Sizes) (ok : Sized z) (spare : 4 ≤ z .share) (map : List ℕ) (f
 
   -- what a fill leaves of the tables, and of the slots
   pub record Fills (s′ : State) : Type 0 where
-    pub built : Built M (able z ok map fits) map (fits .outside) (s .words) p hp page last f x (s .shadow) (s′ .shadow)
+    pub built : Built M ready map (fits .outside) (s .words) p hp page last f x (s .shadow) (s′ .shadow)
     pub words : s′ .words ≡ s .words
     pub beside : (q : ℕ) → (q ≡ p → ⊥) → (k : ℕ) → k < slotCount → SameSlot (s .slots) (s′ .slots) q k
     pub own : (k : ℕ) → k < slotCount → Empty (s′ .slots) p k ⊎ (SameSlot (s .slots) (s′ .slots) p k × (markOf (s .slots) p k ≤ 1))
@@ -45,7 +50,7 @@ module _ (z : Sizes) (ok : Sized z) (spare : 4 ≤ z .share) (map : List ℕ) (f
   enough-tables : d .spot .missing ≤ freeCount M p (d .shadow .records)
       → Fills (stateOf (s .words) (build M map (s .words) p page (d .spot .missing) (d .spot .table) (d .spot .frame) (d .shadow)) (flush p page (s .slots)))
   enough-tables free = record {
-    built = filled M (able z ok map fits) map (fits .outside) (s .words) p hp page last f x (fits .within) (fits .guests) paged cr3 leads (s .shadow) (r .law .trees) free;
+    built = filled M ready map (fits .outside) (s .words) p hp page last f x (fits .within) (fits .guests) paged cr3 leads (s .shadow) (r .law .trees) free;
     words = refl;
     beside = λ q ne k hk. flush-others p page (s .slots) q k hk ne;
     own = λ k hk. flush-leaves p page (s .slots) k hk here;
@@ -54,7 +59,8 @@ module _ (z : Sizes) (ok : Sized z) (spare : 4 ≤ z .share) (map : List ℕ) (f
 
   emptied-share : Fills (stateOf (s .words) (build M map (s .words) p page 3 (rootOf M p) cr3 (emptyShare M p (d .shadow))) (flush p page (emptySlots p (s .slots))))
   emptied-share = record {
-    built = refilled M (able z ok map fits) map (fits .outside) (s .words) p hp page last f x (fits .within) (fits .guests) paged cr3 leads (s .shadow) (r .law .trees) (three-free z ok spare p hp (d .shadow));
+    built = refilled M ready map (fits .outside) (s .words) p hp page last f x (fits .within) (fits .guests) paged cr3 leads (s .shadow) (r .law .trees)
+        (three-free z ok spare p hp (d .shadow));
     words = refl;
     beside = λ q ne k hk. same-on (emptySlots-other p (s .slots) q k hk ne) (flush-others p page (emptySlots p (s .slots)) q k hk ne);
     own = λ k hk. inl (by-cases (flush-here p page (emptySlots p (s .slots)) k hk (omega (arith, emptySlots-length p (s .slots))))

@@ -5,14 +5,12 @@ use mathlib.Core.Logic.{_⊎_, inl, inr}
 use Prim.Native.Nat.{ℕ, zero, suc, _+_, _<_}
 use native.Mathlib.Omega.{arith}
 use lib.Dec.{T, eqb, eqb→eq}
-use borrow.Author.Tests.{eqb-true}
 use Rattle.paging.specs.declared.Request.{Request}
-use Rattle.paging.specs.Layout.{bit}
 use Rattle.paging.specs.Walk.{meet}
 use Rattle.paging.specs.Request.{enough}
 use Rattle.paging.proofs.Finite.{below, at-below, at-below₂}
 use Rattle.paging.proofs.Rights.{meet-small, enough-meet}
-use Rattle.paging.proofs.Tests.{T-true, true-T, or-cases}
+use Rattle.paging.proofs.Tests.{T-true}
 use Rattle.shadow.specs.After.{isWrite}
 
 abbrev asks : ℕ → Request

@@ -3,43 +3,35 @@ use mathlib.Core.Path.{_≡_, refl, sym, ap, ap₂, subst, _∙_}
 use mathlib.Core.Bool.{Bool, true, false, cond, _&&_}
 use mathlib.Core.List.{List}
 use mathlib.Core.Logic.{_⊎_, inl, inr}
-use Prim.Native.Nat.{ℕ, zero, suc, _+_, _-_, _*_, _/_, _%_, _^_, _≤_, _<_}
+use Prim.Native.Nat.{ℕ, suc, _-_, _/_, _^_, _≤_, _<_}
 use native.Mathlib.Nat.{mod-lt}
-use native.Mathlib.Numerals.{sub-one}
-use native.Mathlib.Decide.{ℕ-discrete, decLt}
+use native.Mathlib.Decide.{ℕ-discrete}
 use native.Mathlib.Omega.{arith}
 use lib.Dec.{eqb, ltb}
-use lib.ListN.{length, getD}
-use borrow.Author.Tests.{lt-ltb, le-ltb, ltb-true, ltb-false, eq-eqb, eqb-true}
-use Rattle.paging.specs.declared.Guest.{Guest}
+use lib.ListN.{length}
+use borrow.Author.Tests.{ltb-true, eq-eqb, eqb-true}
 use Rattle.paging.specs.declared.Origin.{Origin}
 use Rattle.paging.specs.declared.Origin.the-variants.{Of, Nowhere}
 use Rattle.paging.specs.Frame.{guest, host, originOf}
 use Rattle.paging.specs.Layout.{tables64, index, pageOf, frameOf, rightsOf, isPresent}
 use Rattle.paging.specs.Walk.{meet}
-use Rattle.paging.proofs.Indices.{index-small}
 use Rattle.paging.proofs.Rights.{meet-small}
 use Rattle.tables.specs.declared.Sizes.{Sizes}
 use Rattle.tables.specs.declared.Path.{Path}
-use Rattle.tables.specs.State.{Machine, Shadow, onPool, onRecords, State, stateOf, machine64, slotCount, markOf, pageIn, placeIn, rightsIn, withSlot, withRecord, emptied, tableCount, ownerOf, rootOf, entryOf, withEntry, named, top, nextEntry, down, descend, pathTo, Sized}
-use Rattle.tables.specs.Steps.{flush, emptySlots, emptyShare}
+use Rattle.tables.specs.State.{Machine, State, stateOf, machine64, slotCount, markOf, pageIn, placeIn, rightsIn, withSlot, emptied, tableCount, rootOf, entryOf, named, top, nextEntry, down, descend, pathTo, Sized}
 use Rattle.tables.proofs.Counts.{by-cases}
 use Rattle.shadow.specs.declared.Answer.the-variants.{Done, NoStep}
 use Rattle.shadow.specs.declared.Place.{Place}
 use Rattle.shadow.specs.declared.Place.the-variants.{At, Off}
-use Rattle.shadow.specs.After.{Result, leafCleared, afterInvlpg, afterCr3, afterBegin, afterExtend, afterLoss, gives, byPlace, placeOf, placeBelow}
+use Rattle.shadow.specs.After.{Result, afterBegin, afterExtend, afterLoss, gives, byPlace, placeOf, placeBelow}
 use Rattle.shadow.proofs.Extends.{origin-small}
 use Rattle.lawful.specs.Rules.{slotRight}
-use Rattle.trees.proofs.Trees.{Able, Outside, Exact, ent, lev, shd, Trees, Less, Same}
-use Rattle.trees.proofs.Rules.{Lawful}
-use Rattle.trees.proofs.Leaves.{leaf-entry, leaf-beside, leaf-trees}
+use Rattle.trees.proofs.Trees.{Outside}
 use Rattle.trees.proofs.Roots.{root-table}
-use Rattle.trees.proofs.Shares.{share-trees, share-less, share-others, share-own, root-trees, root-frame, root-levels, root-frames}
-use Rattle.trees.proofs.Paths.{path-on, path-level, lost-entry, stands, zero-absent}
-use Rattle.trees.proofs.Unique.{leaf-here}
-use Rattle.trees.proofs.Slots.{SameSlot, Empty, Room, with-length, with-other, with-mark, with-page, with-place, with-rights, emptied-here, emptySlots-length, emptySlots-other, emptySlots-here, flush-length, flush-others, flush-here}
-use Rattle.trees.proofs.SlotRules.{Standing, right-partial, right-page, empty-right, complete-right, partial-right}
-use Rattle.keeps.proofs.Right.{Mapped, Right, able, room, Reshaped, reshaped-right, one-slot}
+use Rattle.trees.proofs.Paths.{path-on, path-level}
+use Rattle.trees.proofs.Slots.{Room, with-length, with-other, with-mark, with-page, with-place, with-rights, emptied-here}
+use Rattle.trees.proofs.SlotRules.{right-partial, right-page, empty-right, complete-right, partial-right}
+use Rattle.keeps.proofs.Right.{Mapped, Right, able, room, one-slot}
 
 pub page-small : (a : ℕ) → pageOf tables64 a < 2 ^ 36
 unfolding pageOf

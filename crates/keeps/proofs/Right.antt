@@ -1,15 +1,14 @@
 -- A state whose rules hold, and what an event has to show so that they hold after it.
-use mathlib.Core.Path.{_≡_, refl, sym, ap, _∙_}
+use mathlib.Core.Path.{_≡_, sym, _∙_}
 use mathlib.Core.Bool.{true}
 use mathlib.Core.List.{List}
-use mathlib.Core.Logic.{_⊎_, inl, inr}
-use Prim.Native.Nat.{ℕ, zero, suc, _+_, _-_, _*_, _^_, _≤_, _<_}
-use native.Mathlib.Nat.{mul-le-mul-right}
+use mathlib.Core.Logic.{_⊎_}
+use Prim.Native.Nat.{ℕ, _-_, _*_, _^_, _≤_, _<_}
 use native.Mathlib.Decide.{ℕ-discrete}
 use native.Mathlib.Omega.{arith}
 use lib.ListN.{length, getD}
 use Rattle.tables.specs.declared.Sizes.{Sizes}
-use Rattle.tables.specs.State.{Machine, Shadow, State, stateOf, machine64, slotCount, markOf, pageIn, tableCount, ownerOf, top, descend, Sized}
+use Rattle.tables.specs.State.{Machine, State, stateOf, machine64, slotCount, markOf, pageIn, tableCount, ownerOf, Sized}
 use Rattle.tables.proofs.Counts.{by-cases}
 use Rattle.lawful.specs.Rules.{slotRight}
 use Rattle.trees.proofs.Trees.{Able, Outside, Exact, Trees, Same}
@@ -17,7 +16,7 @@ use Rattle.trees.proofs.Entries.{able64}
 use Rattle.trees.proofs.Rules.{Lawful}
 use Rattle.trees.proofs.Paths.{same-path}
 use Rattle.trees.proofs.Slots.{SameSlot, Empty, Room}
-use Rattle.trees.proofs.SlotRules.{empty-right, complete-any, same-right, stays-right}
+use Rattle.trees.proofs.SlotRules.{empty-right, same-right, stays-right}
 
 -- the map of a call: all guest frames, host frames in range and outside the pool
 pub record Mapped (z : Sizes) (map : List ℕ) : Type 0 where

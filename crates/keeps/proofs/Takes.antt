@@ -1,45 +1,29 @@
 -- INVLPG and CR3 write keep the state rules: they take entries away, and with them the page's path.
-use mathlib.Core.Path.{_≡_, refl, sym, ap, ap₂, subst, _∙_}
-use mathlib.Core.Bool.{Bool, true, false, cond, _&&_}
+use mathlib.Core.Path.{_≡_, refl, ap, _∙_}
+use mathlib.Core.Bool.{Bool, true, false, cond}
 use mathlib.Core.List.{List}
 use mathlib.Core.Logic.{_⊎_, inl, inr}
-use Prim.Native.Nat.{ℕ, zero, suc, _+_, _-_, _*_, _/_, _%_, _^_, _≤_, _<_}
-use native.Mathlib.Nat.{mod-lt}
-use native.Mathlib.Numerals.{sub-one}
+use Prim.Native.Nat.{ℕ, _≤_, _<_}
 use native.Mathlib.Decide.{ℕ-discrete, decLt}
 use native.Mathlib.Omega.{arith}
-use lib.Dec.{eqb, ltb}
-use lib.ListN.{length, getD}
-use borrow.Author.Tests.{lt-ltb, le-ltb, ltb-true, ltb-false, eq-eqb, eqb-true}
-use Rattle.paging.specs.declared.Guest.{Guest}
-use Rattle.paging.specs.declared.Origin.{Origin}
-use Rattle.paging.specs.declared.Origin.the-variants.{Of, Nowhere}
-use Rattle.paging.specs.Frame.{guest, host, originOf}
-use Rattle.paging.specs.Layout.{tables64, index, pageOf, frameOf, rightsOf, isPresent}
-use Rattle.paging.specs.Walk.{meet}
+use lib.Dec.{ltb}
+use borrow.Author.Tests.{ltb-true, ltb-false}
+use Rattle.paging.specs.Frame.{guest}
+use Rattle.paging.specs.Layout.{tables64, index, pageOf, isPresent}
 use Rattle.paging.proofs.Indices.{index-small}
-use Rattle.paging.proofs.Rights.{meet-small}
 use Rattle.tables.specs.declared.Sizes.{Sizes}
-use Rattle.tables.specs.declared.Path.{Path}
-use Rattle.tables.specs.State.{Machine, Shadow, onPool, onRecords, State, stateOf, machine64, slotCount, markOf, pageIn, placeIn, rightsIn, withSlot, withRecord, emptied, tableCount, ownerOf, rootOf, entryCount, entryOf, withEntry, named, top, nextEntry, down, descend, pathTo, Sized}
-use Rattle.tables.specs.Steps.{flush, emptySlots, emptyShare}
+use Rattle.tables.specs.State.{Machine, Shadow, onPool, onRecords, State, machine64, slotCount, markOf, withRecord, tableCount, ownerOf, rootOf, entryCount, withEntry, nextEntry, pathTo, Sized}
+use Rattle.tables.specs.Steps.{flush, emptyShare}
 use Rattle.tables.proofs.Counts.{by-cases}
-use Rattle.shadow.specs.declared.Answer.the-variants.{Done, NoStep}
-use Rattle.shadow.specs.declared.Place.{Place}
-use Rattle.shadow.specs.declared.Place.the-variants.{At, Off}
-use Rattle.shadow.specs.After.{Result, leafCleared, afterInvlpg, afterCr3, afterBegin, afterExtend, afterLoss, gives, byPlace, placeOf, placeBelow}
-use Rattle.shadow.proofs.Extends.{origin-small}
-use Rattle.lawful.specs.Rules.{slotRight}
-use Rattle.trees.proofs.Trees.{Able, Outside, Exact, ent, lev, shd, Trees, Less, Same}
-use Rattle.trees.proofs.Rules.{Lawful}
+use Rattle.shadow.specs.After.{leafCleared, afterInvlpg, afterCr3}
+use Rattle.trees.proofs.Trees.{Able, Outside, ent, lev, shd, Trees, Less, Same}
 use Rattle.trees.proofs.Leaves.{leaf-entry, leaf-beside, leaf-trees}
 use Rattle.trees.proofs.Roots.{root-owner}
 use Rattle.trees.proofs.Shares.{share-trees, share-less, share-others, share-own, root-trees, root-frame, root-levels, root-frames}
-use Rattle.trees.proofs.Paths.{path-on, path-level, lost-entry, stands, zero-absent}
+use Rattle.trees.proofs.Paths.{lost-entry, stands, zero-absent}
 use Rattle.trees.proofs.Unique.{leaf-here}
-use Rattle.trees.proofs.Slots.{SameSlot, Empty, Room, with-length, with-other, with-mark, with-page, with-place, with-rights, emptied-here, emptySlots-length, emptySlots-other, emptySlots-here, flush-length, flush-others, flush-here}
-use Rattle.trees.proofs.SlotRules.{Standing, right-partial, right-page, empty-right, complete-right, partial-right}
-use Rattle.keeps.proofs.Right.{Mapped, Right, able, room, Reshaped, reshaped-right, one-slot}
+use Rattle.trees.proofs.Slots.{SameSlot, Empty, Room, emptySlots-length, emptySlots-other, emptySlots-here, flush-length, flush-others, flush-here}
+use Rattle.keeps.proofs.Right.{Mapped, Right, able, room, Reshaped}
 
 -- what a flush leaves of a slot
 pub flush-leaves : (p v : ℕ) (slots : List ℕ) (k : ℕ) → k < slotCount → Room slots p
@@ -53,6 +37,12 @@ module _ (z : Sizes) (ok : Sized z) (map : List ℕ) (fits : Mapped z map) (p : 
 
   abbrev out : Outside M map
   out = fits .outside
+
+  abbrev ready : Able M
+  ready = able z ok map fits
+
+  abbrev was : Trees M map (s .shadow)
+  was = r .law .trees
 
   here : Room (s .slots) p
   here = room z ok map fits (s .slots) (r .triples) p hp
@@ -73,39 +63,55 @@ module _ (z : Sizes) (ok : Sized z) (map : List ℕ) (fits : Mapped z map) (p : 
     abbrev t : ℕ
     t = pathTo M (s .shadow .pool) p v 1 .table
 
+    -- the path ends above level 1
+    none : tableCount M ≤ t → Takes v (s .shadow)
+    none off = record {
+      trees = was;
+      less = record { entries = λ u h k l. inl refl };
+      others = λ u h ne. record { entries = λ k l. refl; level = refl; frame = refl };
+      gone = zero-absent _ (lost-entry M ready (s .shadow) (was .exact) v (pathTo M (s .shadow .pool) p v 1) off);
+    }
+
+    -- it reaches a level 1 table
+    module _ (on : t < tableCount M) where
+      abbrev i : ℕ
+      i = index tables64 v 1
+
+      abbrev s₁ : Shadow
+      s₁ = onPool (withEntry M t i 0) (s .shadow)
+
+      level : lev M (s .shadow) t ≡ 1
+      level = stands M ready map out (s .shadow) was p hp v 3 (omega arith) on .0
+
+      owner : ownerOf M t ≡ p
+      owner = stands M ready map out (s .shadow) was p hp v 3 (omega arith) on .1
+
+      cleared : ent M s₁ t i ≡ 0
+      cleared = leaf-entry M ready map out (s .shadow) was t i 0 on level (index-small tables64 v 1) (omega arith) (inl refl)
+
+      beside : (u k : ℕ) → k < entryCount M → (u ≡ t → k ≡ i → ⊥) → ent M s₁ u k ≡ ent M (s .shadow) u k
+      beside = leaf-beside M ready map out (s .shadow) was t i 0 on level (index-small tables64 v 1) (omega arith) (inl refl)
+
+      lessened : (u k : ℕ) → k < entryCount M → Dec (u ≡ t) → Dec (k ≡ i) → (ent M s₁ u k ≡ ent M (s .shadow) u k) ⊎ (ent M s₁ u k ≡ 0)
+      lessened u k hk (yes x) (yes y) = inr (rw (x, y) cleared)
+      lessened u k hk (no ne) d = inl (beside u k hk (λ x y. ne x))
+      lessened u k hk (yes x) (no ne) = inl (beside u k hk (λ x y. ne y))
+
+      some : Takes v s₁
+      some = record {
+        trees = leaf-trees M ready map out (s .shadow) was t i 0 on level (index-small tables64 v 1) (omega arith) (inl refl);
+        less = record { entries = λ u hu k hk. lessened u k hk (ℕ-discrete u t) (ℕ-discrete k i) };
+        others = λ u hu ne. record { entries = λ k hk. beside u k hk (λ e x. ne (ap (ownerOf M) e ∙ owner)); level = refl; frame = refl };
+        gone = zero-absent _ (leaf-here M ready map out (s .shadow) was p hp v t 0 on level refl (omega arith));
+      }
+
     clears : Takes v (onPool (leafCleared M p v) (s .shadow))
     unfolding leafCleared
     clears = go (ltb t (tableCount M)) refl
       where
-        none : ltb t (tableCount M) ≡ false → Takes v (s .shadow)
-        none q = record {
-          trees = r .law .trees;
-          less = record { entries = λ t h i k. inl refl };
-          others = λ t h ne. record { entries = λ i k. refl; level = refl; frame = refl };
-          gone = zero-absent _ (lost-entry M (able z ok map fits) (s .shadow) (r .law .trees .exact) v (pathTo M (s .shadow .pool) p v 1) (ltb-false t (tableCount M) q));
-        }
-
-        cleared : (on : t < tableCount M) (level : lev M (s .shadow) t ≡ 1) (u i : ℕ) → i < entryCount M → Dec (u ≡ t) → Dec (i ≡ index tables64 v 1)
-            → (ent M (onPool (withEntry M t (index tables64 v 1) 0) (s .shadow)) u i ≡ ent M (s .shadow) u i) ⊎ (ent M (onPool (withEntry M t (index tables64 v 1) 0) (s .shadow)) u i ≡ 0)
-        cleared on level u i hi (yes x) (yes y) = inr (rw (x, y) (leaf-entry M (able z ok map fits) map out (s .shadow) (r .law .trees) t (index tables64 v 1) 0 on level (index-small tables64 v 1) (omega arith) (inl refl)))
-        cleared on level u i hi (no ne) d = inl (leaf-beside M (able z ok map fits) map out (s .shadow) (r .law .trees) t (index tables64 v 1) 0 on level (index-small tables64 v 1) (omega arith) (inl refl) u i hi (λ x y. ne x))
-        cleared on level u i hi (yes x) (no ne) = inl (leaf-beside M (able z ok map fits) map out (s .shadow) (r .law .trees) t (index tables64 v 1) 0 on level (index-small tables64 v 1) (omega arith) (inl refl) u i hi (λ x y. ne y))
-
-        some : ltb t (tableCount M) ≡ true → Takes v (onPool (withEntry M t (index tables64 v 1) 0) (s .shadow))
-        some q =
-            let on : t < tableCount M = ltb-true t (tableCount M) q in
-            let st = stands M (able z ok map fits) map out (s .shadow) (r .law .trees) p hp v 3 (omega arith) on in
-            let level : lev M (s .shadow) t ≡ 1 = st .0 in
-            record {
-              trees = leaf-trees M (able z ok map fits) map out (s .shadow) (r .law .trees) t (index tables64 v 1) 0 on level (index-small tables64 v 1) (omega arith) (inl refl);
-              less = record { entries = λ u hu i hi. cleared on level u i hi (ℕ-discrete u t) (ℕ-discrete i (index tables64 v 1)) };
-              others = λ u hu ne. record { entries = λ i hi. leaf-beside M (able z ok map fits) map out (s .shadow) (r .law .trees) t (index tables64 v 1) 0 on level (index-small tables64 v 1) (omega arith) (inl refl) u i hi (λ e k. ne (ap (ownerOf M) e ∙ st .1)); level = refl; frame = refl };
-              gone = zero-absent _ (leaf-here M (able z ok map fits) map out (s .shadow) (r .law .trees) p hp v t 0 on level refl (omega arith));
-            }
-
         go : (b : Bool) → ltb t (tableCount M) ≡ b → Takes v (onPool (λ pool. cond b (withEntry M t (index tables64 v 1) 0 pool) pool) (s .shadow))
-        go true q = some q
-        go false q = none q
+        go true q = some (ltb-true t (tableCount M) q)
+        go false q = none (ltb-false t (tableCount M) q)
 
     pub invlpg-takes : Takes v (afterInvlpg M p a s .state .shadow)
     unfolding afterInvlpg
@@ -128,32 +134,32 @@ module _ (z : Sizes) (ok : Sized z) (map : List ℕ) (fits : Mapped z map) (p : 
     bare = emptyShare M p (s .shadow)
 
     bare-trees : Trees M map bare
-    bare-trees = share-trees M (able z ok map fits) map out (s .shadow) (r .law .trees) p hp
+    bare-trees = share-trees M ready map out (s .shadow) was p hp
 
     -- no page of p has a path
     pub cr3-takes : (v : ℕ) → Takes v (afterCr3 M p f s .state .shadow)
     unfolding afterCr3
     cr3-takes v = record {
       trees = anew;
-      less = record { entries = share-less M (able z ok map fits) map out (s .shadow) (r .law .trees) p hp .entries };
+      less = record { entries = share-less M ready map out (s .shadow) was p hp .entries };
       others = λ t ht ne.
-          let same = share-others M (able z ok map fits) map out (s .shadow) (r .law .trees) p hp t ht ne in
+          let same = share-others M ready map out (s .shadow) was p hp t ht ne in
           record {
             entries = same .entries;
-            level = root-levels M (able z ok map fits) map bare bare-trees p hp f hf t ∙ same .level;
-            frame = root-frames M (able z ok map fits) map bare bare-trees p hp f hf t (λ q. ne (ap (ownerOf M) q ∙ root-owner M (able z ok map fits) p)) ∙ same .frame;
+            level = root-levels M ready map bare bare-trees p hp f hf t ∙ same .level;
+            frame = root-frames M ready map bare bare-trees p hp f hf t (λ q. ne (ap (ownerOf M) q ∙ root-owner M ready p)) ∙ same .frame;
           };
       gone = go (decLt (pathTo M (bare .pool) p v 1 .table) (tableCount M));
     }
       where
         anew : Trees M map (onRecords (withRecord (rootOf M p) 4 (guest f)) bare)
-        anew = root-trees M (able z ok map fits) map bare bare-trees p hp f hf
+        anew = root-trees M ready map bare bare-trees p hp f hf
 
         go : Dec (pathTo M (bare .pool) p v 1 .table < tableCount M) → isPresent (nextEntry M (bare .pool) v (pathTo M (bare .pool) p v 1)) ≡ true → ⊥
         go (yes on) =
-            zero-absent _ (share-own M (able z ok map fits) map out (s .shadow) (r .law .trees) p hp (pathTo M (bare .pool) p v 1 .table) on
-            (stands M (able z ok map fits) map out bare bare-trees p hp v 3 (omega arith) on .1) _ (index-small tables64 v (pathTo M (bare .pool) p v 1 .level)))
-        go (no off) = zero-absent _ (lost-entry M (able z ok map fits) bare (bare-trees .exact) v (pathTo M (bare .pool) p v 1) (omega arith))
+            zero-absent _ (share-own M ready map out (s .shadow) was p hp (pathTo M (bare .pool) p v 1 .table) on
+            (stands M ready map out bare bare-trees p hp v 3 (omega arith) on .1) _ (index-small tables64 v (pathTo M (bare .pool) p v 1 .level)))
+        go (no off) = zero-absent _ (lost-entry M ready bare (bare-trees .exact) v (pathTo M (bare .pool) p v 1) (omega arith))
 
     pub cr3-reshapes : Reshaped z ok map fits p s (afterCr3 M p f s .state)
     unfolding afterCr3
@@ -167,4 +173,4 @@ module _ (z : Sizes) (ok : Sized z) (map : List ℕ) (fits : Mapped z map) (p : 
 
     pub cr3-root : shd M (afterCr3 M p f s .state .shadow) (rootOf M p) ≡ f
     unfolding afterCr3
-    cr3-root = root-frame M (able z ok map fits) map bare bare-trees p hp f hf
+    cr3-root = root-frame M ready map bare bare-trees p hp f hf

@@ -1,22 +1,21 @@
--- What holds from every state that the event call takes: the state rules are kept, and the put after "again" answers an address.
+-- What holds from every state that the event call takes: the state rules are kept, a later call is refused only for its own
+-- event, and the put after "again" answers an address.
 use mathlib.Core.Path.{_≡_, refl, sym, ap, _∙_}
-use mathlib.Core.Bool.{Bool, true}
+use mathlib.Core.Bool.{true}
 use mathlib.Core.List.{List, []}
 use Prim.Native.Nat.{ℕ, _*_, _≤_, _<_}
 use native.Mathlib.Omega.{arith}
-use borrow.Author.Tests.{eq-eqb}
 use lib.ListN.{length, set, length-set}
 use Rattle.paging.specs.Layout.{frameWords, tables64, pageOf}
 use Rattle.paging.specs.Request.{requestOf}
 use Rattle.rules.specs.declared.Event.{Event}
 use Rattle.tables.specs.declared.Sizes.{Sizes}
-use Rattle.tables.specs.State.{Machine, State, machine64, Sized}
+use Rattle.tables.specs.State.{State, machine64, Sized}
 use Rattle.tables.proofs.Counts.{by-cases}
 use Rattle.lawful.specs.Rules.{lawful}
 use Rattle.rules.specs.History.{eventRefusal}
-use Rattle.shadow.specs.declared.Answer.{Answer}
-use Rattle.shadow.specs.declared.Answer.the-variants.{Done, Address, Again, NoStep, Refused}
-use Rattle.shadow.specs.After.{Result, asSetup, callRefusal, after, afterInvlpg, afterCr3, afterAccess, afterBegin, afterLoss}
+use Rattle.shadow.specs.declared.Answer.the-variants.{Done, Address, Again, Refused}
+use Rattle.shadow.specs.After.{Result, asSetup, callRefusal, after, afterInvlpg, afterCr3, afterBegin, afterLoss}
 use Rattle.shadow.proofs.Accepted.{accepted-ranged, accepted-sized, accepted-own, accepted-words, accepted-frames, accepted-event}
 use Rattle.trees.proofs.Entries.{able64}
 use Rattle.trees.proofs.Rules.{lawful-is}
@@ -24,12 +23,12 @@ use Rattle.keeps.proofs.Right.{Mapped, Right, words-right, reshaped-rig
 use Rattle.keeps.proofs.Moves.{loss-right, begin-right, extend-right, extend-words, extend-answer}
 use Rattle.keeps.proofs.Takes.{invlpg-reshapes, cr3-reshapes}
 use Rattle.keeps.proofs.Accesses.{Way, slot, shadow, fault, lacks, again, ways, served, access-right, access-words}
-use Rattle.keeps.proofs.Again.{Serves, access-serves}
+use Rattle.keeps.proofs.Again.{unlike, Serves, access-serves}
 use Rattle.keeps.proofs.Accepts.{same-tests, accepts}
 use Rattle.keeps.proofs.Events.{Kind, store, invlpg, cr3, access, begin, extend, loss, accepted-mapped, accepted-right, kinds}
 
-unlike : {A : Type 0} {out x : Result} → out ≡ x → out .answer ≡ Again → x .answer ≡ Done → A
-unlike o g d = let q : Done ≡ Again = sym d ∙ sym (ap (λ (y : Result). y .answer) o) ∙ g in let n : _≡_ {A = ℕ} 0 1 = cc in absurd (omega arith)
+done-again : Done ≡ Again → ⊥
+done-again e = let n : _≡_ {A = ℕ} 0 1 = cc in omega arith
 
 module _ (z : Sizes) (map : List ℕ) (s : State) (e : Event) (ok : callRefusal (machine64 z) map s e ≡ 0) where
   abbrev sized : Sized z
@@ -90,15 +89,15 @@ module _ (z : Sizes) (map : List ℕ) (s : State) (e : Event) (ok : callRefusal 
   serves : {out : Result} → Kind z map s e out → out .answer ≡ Again → (e .kind ≡ 4) × Serves z (out .state) (e .proc) (pageOf tables64 (e .a)) (requestOf tables64 (e .b))
   serves (access q h o) g =
       rw o (q, access-serves z map (e .proc) (e .a) (e .b) s sized spare fits hp r h (sym (ap (λ (y : Result). y .answer) o) ∙ g))
-  serves (store q h o) g = unlike o g refl
-  serves (invlpg q o) g = unlike o g (unfold afterInvlpg in refl)
-  serves (cr3 q h o) g = unlike o g (unfold afterCr3 in refl)
-  serves (begin q h o) g = unlike o g (unfold afterBegin in refl)
+  serves (store q h o) g = unlike o g done-again
+  serves (invlpg q o) g = unlike o g (λ e. done-again (unfold afterInvlpg in e))
+  serves (cr3 q h o) g = unlike o g (λ e. done-again (unfold afterCr3 in e))
+  serves (begin q h o) g = unlike o g (λ e. done-again (unfold afterBegin in e))
   serves (extend q h o) g =
       by-cases (extend-answer (machine64 z) map (e .proc) (e .a) s)
-      (λ d. unlike o g d)
-      (λ d. let x : NoStep ≡ Again = sym d ∙ sym (ap (λ (y : Result). y .answer) o) ∙ g in let n : _≡_ {A = ℕ} 0 1 = cc in absurd (omega arith))
-  serves (loss q h o) g = unlike o g (unfold afterLoss in refl)
+      (λ d. unlike o g (λ e. done-again (sym d ∙ e)))
+      (λ d. unlike o g (λ e. let x = sym d ∙ e in let n : _≡_ {A = ℕ} 0 1 = cc in omega arith))
+  serves (loss q h o) g = unlike o g (λ e. done-again (unfold afterLoss in e))
 
   pub again-serves : after (machine64 z) map s e .answer ≡ Again → (e .kind ≡ 4) × Serves z s′ (e .proc) (pageOf tables64 (e .a)) (requestOf tables64 (e .b))
   again-serves g = serves (kinds z map s e ok) g
@@ -128,24 +127,24 @@ again-address z map s e ok g =
 pub never-refused : (z : Sizes) (map : List ℕ) (s : State) (e : Event) → callRefusal (machine64 z) map s e ≡ 0 → (n : ℕ) → after (machine64 z) map s e .answer ≡ Refused n → ⊥
 never-refused z map s e ok n refused = go (kinds z map s e ok) refused
   where
-    other : {out x : Result} → out ≡ x → out .answer ≡ Refused n → x .answer ≡ Done → ⊥
-    other o g d = let q : Done ≡ Refused n = sym d ∙ sym (ap (λ (y : Result). y .answer) o) ∙ g in let m : _≡_ {A = ℕ} 0 1 = cc in omega arith
+    done : Done ≡ Refused n → ⊥
+    done e = let m : _≡_ {A = ℕ} 0 1 = cc in omega arith
 
     way : {out : Result} → Way z map (e .proc) (e .a) (e .b) s out → out .answer ≡ Refused n → ⊥
-    way (slot k h x o) g = let q = sym (ap (λ (y : Result). y .answer) o) ∙ g in let m : _≡_ {A = ℕ} 0 1 = cc in omega arith
-    way (shadow h x o) g = let q = sym (ap (λ (y : Result). y .answer) o) ∙ g in let m : _≡_ {A = ℕ} 0 1 = cc in omega arith
-    way (fault base x o) g = let q = sym (ap (λ (y : Result). y .answer) o) ∙ g in let m : _≡_ {A = ℕ} 0 1 = cc in omega arith
-    way (lacks last w x y o) g = let q = sym (ap (λ (y : Result). y .answer) o) ∙ g in let m : _≡_ {A = ℕ} 0 1 = cc in omega arith
-    way (again last w x y o) g = let q = sym (ap (λ (y : Result). y .answer) o) ∙ g in let m : _≡_ {A = ℕ} 0 1 = cc in omega arith
+    way (slot k h x o) g = unlike o g (λ e. let m : _≡_ {A = ℕ} 0 1 = cc in omega arith)
+    way (shadow h x o) g = unlike o g (λ e. let m : _≡_ {A = ℕ} 0 1 = cc in omega arith)
+    way (fault base x o) g = unlike o g (λ e. let m : _≡_ {A = ℕ} 0 1 = cc in omega arith)
+    way (lacks last w x y o) g = unlike o g (λ e. let m : _≡_ {A = ℕ} 0 1 = cc in omega arith)
+    way (again last w x y o) g = unlike o g (λ e. let m : _≡_ {A = ℕ} 0 1 = cc in omega arith)
 
     go : {out : Result} → Kind z map s e out → out .answer ≡ Refused n → ⊥
-    go (store x h o) g = other o g refl
-    go (invlpg x o) g = other o g (unfold afterInvlpg in refl)
-    go (cr3 x h o) g = other o g (unfold afterCr3 in refl)
+    go (store x h o) g = unlike o g done
+    go (invlpg x o) g = unlike o g (λ e. done (unfold afterInvlpg in e))
+    go (cr3 x h o) g = unlike o g (λ e. done (unfold afterCr3 in e))
     go (access x h o) g = way (ways z map (e .proc) (e .a) (e .b) s) (sym (ap (λ (y : Result). y .answer) o) ∙ g)
-    go (begin x h o) g = other o g (unfold afterBegin in refl)
+    go (begin x h o) g = unlike o g (λ e. done (unfold afterBegin in e))
     go (extend x h o) g =
         by-cases (extend-answer (machine64 z) map (e .proc) (e .a) s)
-        (λ d. other o g d)
-        (λ d. let q : NoStep ≡ Refused n = sym d ∙ sym (ap (λ (y : Result). y .answer) o) ∙ g in let m : _≡_ {A = ℕ} 0 1 = cc in omega arith)
-    go (loss x h o) g = other o g (unfold afterLoss in refl)
+        (λ d. unlike o g (λ e. done (sym d ∙ e)))
+        (λ d. unlike o g (λ e. let x = sym d ∙ e in let m : _≡_ {A = ℕ} 0 1 = cc in omega arith))
+    go (loss x h o) g = unlike o g (λ e. done (unfold afterLoss in e))

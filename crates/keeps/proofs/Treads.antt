@@ -1,27 +1,23 @@
 -- The guest's walk that completes: every entry it read is present and inside the guest, in any words that agree but for A and D.
 use mathlib.Core.Path.{_≡_, refl, sym, _∙_, ap, subst}
-use mathlib.Core.Bool.{true}
 use mathlib.Core.List.{List}
-use Prim.Native.Nat.{ℕ, zero, suc, _+_, _-_, _*_, _≤_, _<_}
-use native.Mathlib.Numerals.{sub-one}
+use Prim.Native.Nat.{ℕ, zero, suc}
 use native.Mathlib.Omega.{arith}
-use lib.ListN.{length, getD}
 use Rattle.paging.specs.declared.Guest.{Guest}
 use Rattle.paging.specs.declared.Walk.{Walk}
 use Rattle.paging.specs.declared.Step.{Step}
 use Rattle.paging.specs.declared.Step.the-variants.{On, Absent, Beyond, Complete}
 use Rattle.paging.specs.Frame.{guest}
-use Rattle.paging.specs.Layout.{tables64, get, put, index, frameOf, rightsOf, isPresent, markA}
+use Rattle.paging.specs.Layout.{tables64, get, put, index, frameOf, rightsOf, markA}
 use Rattle.paging.specs.Walk.{meet, step}
 use Rattle.paging.proofs.Layouts.{Alike, tables64-sound, present-alike, frame-alike, rights-alike}
-use Rattle.paging.proofs.Steps.{Goes, goes, completed}
+use Rattle.paging.proofs.Steps.{goes, completed}
 use Rattle.tables.specs.declared.Sizes.{Sizes}
-use Rattle.tables.specs.declared.Walked.{Walked}
 use Rattle.tables.specs.declared.Walked.the-variants.{Whole, Fault}
 use Rattle.tables.specs.State.{machine64}
-use Rattle.tables.specs.Steps.{Trod, trod, byStep, walkFrom, guestEntry}
+use Rattle.tables.specs.Steps.{Trod, byStep, walkFrom, guestEntry}
 use Rattle.keeps.proofs.Alikes.{Same, same-trans, same-mark-a, same-get}
-use Rattle.trees.proofs.Fills.{Leads}
+use Rattle.trees.proofs.Settles.{Leads}
 
 whole-walk : {last last′ : Guest} {w w′ : Walk} → Whole last w ≡ Whole last′ w′ → w ≡ w′
 whole-walk e = cc
@@ -64,9 +60,12 @@ module _ (z : Sizes) (page : ℕ) (words : List ℕ) where
       fault : {k : ℕ} {A : Type 0} {last : Guest} {w′ : Walk} → Fault k ≡ Whole last w′ → A
       fault e = let z : _≡_ {A = ℕ} 0 1 = cc in absurd (omega arith)
 
+      on-from : Walk → Trod
+      on-from w′ = walkFrom tables64 (z .frames) page n (put tables64 now (w .frame .0) i (markA e)) (w .frame) w′
+
       by : (r : Step) → step tables64 (z .frames) w e ≡ r
-          → ((w′ : Walk) → step tables64 (z .frames) w e ≡ On w′ → Treads n (w .frame) (w′ .frame) (w′ .rights) (walkFrom tables64 (z .frames) page n (put tables64 now (w .frame .0) i (markA e)) (w .frame) w′))
-          → Treads (suc n) from (w .frame) (w .rights) (byStep now from w (λ w′. walkFrom tables64 (z .frames) page n (put tables64 now (w .frame .0) i (markA e)) (w .frame) w′) r)
+          → ((w′ : Walk) → step tables64 (z .frames) w e ≡ On w′ → Treads n (w .frame) (w′ .frame) (w′ .rights) (on-from w′))
+          → Treads (suc n) from (w .frame) (w .rights) (byStep now from w on-from r)
       by (On w′) on more = record {
         same = more w′ on .same;
         leads = λ last w″ q.

@@ -1,8 +1,7 @@
 -- An access carries the invariant: what it fills is the guest's path as it is now.
-use mathlib.Core.Path.{_≡_, refl, sym, ap, subst, _∙_}
+use mathlib.Core.Path.{_≡_, refl, sym, ap, _∙_}
 use mathlib.Core.List.{List}
-use mathlib.Core.Bool.{Bool, true}
-use Prim.Native.Nat.{ℕ, zero, suc, _+_, _-_, _*_, _^_, _≤_, _<_}
+use Prim.Native.Nat.{ℕ, suc, _^_, _≤_, _<_}
 use native.Mathlib.Decide.{ℕ-discrete}
 use native.Mathlib.Omega.{arith}
 use Rattle.paging.specs.declared.Guest.{Guest}
@@ -12,172 +11,177 @@ use Rattle.paging.specs.Layout.{tables64, pageOf, get, index}
 use Rattle.paging.specs.Walk.{start, step}
 use Rattle.paging.proofs.Layouts.{tables64-sound}
 use Rattle.rules.specs.declared.Event.{Event}
-use Rattle.rules.specs.History.{eventAt, wordsAt, cr3At}
-use Rattle.rules.specs.View.{View, viewOf}
+use Rattle.rules.specs.History.{eventAt, wordsAt}
+use Rattle.rules.specs.View.{viewOf}
 use Rattle.rules.proofs.Lawful.{Lawful}
 use Rattle.rules.proofs.Steps.{Kept, begin}
 use Rattle.rules.proofs.Theorems.{view-lawful}
 use Rattle.tables.specs.declared.Sizes.{Sizes}
 use Rattle.tables.specs.declared.Walked.{Walked}
-use Rattle.tables.specs.declared.Walked.the-variants.{Whole, Fault}
-use Rattle.tables.specs.State.{Machine, State, stateOf, machine64, slotCount, pageIn, ownerOf, rootOf, Sized}
+use Rattle.tables.specs.declared.Walked.the-variants.{Whole}
+use Rattle.tables.specs.State.{Machine, State, slotCount, pageIn, rootOf, Sized}
 use Rattle.tables.proofs.Counts.{by-cases}
 use Rattle.shadow.specs.After.{Result, fill, afterAccess, callRefusal}
 use Rattle.shadow.proofs.Accepted.{accepted-ranged}
 use Rattle.trees.proofs.Trees.{shd}
-use Rattle.trees.proofs.Fills.{Built}
 use Rattle.trees.proofs.Roots.{root-table, root-owner}
 use Rattle.trees.proofs.Slots.{SameSlot}
-use Rattle.keeps.proofs.Alikes.{Same, same-refl}
+use Rattle.keeps.proofs.Alikes.{same-refl}
 use Rattle.keeps.proofs.Right.{Mapped, able}
 use Rattle.keeps.proofs.Moves.{page-small}
 use Rattle.keeps.proofs.Filled.{Fills}
 use Rattle.keeps.proofs.Accesses.{walked, marked, trod-same, marked-same, marked-leads, marked-right, filling, Way, slot, shadow, fault, lacks, again, ways}
 use Rattle.keeps.proofs.Again.{end-covers, end-frame, end-inside}
+use Rattle.promise.specs.Demand.{Fresh, machineOf}
 use Rattle.promise.proofs.GuestWalks.{Ends, whole, absent, beyond, walks}
-use Rattle.promise.proofs.Settles.{Backed}
 use Rattle.promise.proofs.Holds.{U, seen, Holds, Pathed, Slotted, stay-path, stay-slot, stay-backed, same-path, same-slot, no-slot, quiet-unended, cr3-kept}
 use Rattle.promise.proofs.Carries.{After, sized, fits, hp, still, kept-words}
 
--- ---- the guest's walk, seen from the rules
+module _ (F : Fresh) (es : List Event) (k : ℕ) (s : State) (h : Holds F es k s) where
+  abbrev z : Sizes
+  z = F .sizes
 
-module _ (z : Sizes) (map begun cr3s : List ℕ) (es : List Event) (k : ℕ) (s : State) (h : Holds z map begun cr3s es k s) (p : ℕ) (hp′ : p < z .processors) (a b : ℕ) where
-  abbrev v : ℕ
-  v = pageOf tables64 a
+  abbrev map : List ℕ
+  map = F .map
 
-  abbrev pub rules : List ℕ
-  rules = wordsAt (U z map begun cr3s es) es k
-
-  pub law : Lawful (seen z map begun cr3s es p v) 4 (z .frames)
-  law = view-lawful (U z map begun cr3s es) es p v tables64-sound
-
-  pub reads : (w : Walk) → seen z map begun cr3s es p v .steps k w ≡ step tables64 (z .frames) w (get tables64 rules (w .frame .0) (index tables64 v (w .level)))
-  unfolding viewOf
-  reads w = refl
-
-  begins : Kept (seen z map begun cr3s es p v) k (start tables64 (guest (shd (machine64 z) (s .shadow) (rootOf (machine64 z) p))))
-  unfolding viewOf
-  begins = begin (ap (λ (n : ℕ). start tables64 (guest n)) (h .roots p hp′))
-
-  -- IT ENDS IN A HELD WALK, or a held walk faults as it does
-  pub walk-ends : Ends (seen z map begun cr3s es p v) (z .frames) v k rules law reads (walked z map p a b s .ended)
-  walk-ends =
-      walks (seen z map begun cr3s es p v) (z .frames) v k rules law reads 4 (s .words) (guest (shd (machine64 z) (s .shadow) (rootOf (machine64 z) p)))
-      (start tables64 (guest (shd (machine64 z) (s .shadow) (rootOf (machine64 z) p)))) (h .words) begins refl .ended
-
-  ended-whole : {x : Walked} → Ends (seen z map begun cr3s es p v) (z .frames) v k rules law reads x → (last : Guest) (w : Walk) → x ≡ Whole last w
-      → Kept (seen z map begun cr3s es p v) k w × (w .level ≡ 0)
-  ended-whole (whole {w = w′} held done) last w q = let e : w′ ≡ w = cc in (rw e at held, rw e at done)
-  ended-whole (absent c held gone) last w q = let n : _≡_ {A = ℕ} 0 1 = cc in absurd (omega arith)
-  ended-whole (beyond c held gone) last w q = let n : _≡_ {A = ℕ} 0 1 = cc in absurd (omega arith)
-
-  pub walk-held : (last : Guest) (w : Walk) → walked z map p a b s .ended ≡ Whole last w → Kept (seen z map begun cr3s es p v) k w × (w .level ≡ 0)
-  walk-held last w q = ended-whole walk-ends last w q
-
--- ---- after an access
-
-module _ (z : Sizes) (map begun cr3s : List ℕ) (es : List Event) (k : ℕ) (s : State) (h : Holds z map begun cr3s es k s)
-    (ok : callRefusal (machine64 z) map s (eventAt es k) ≡ 0) (four : eventAt es k .kind ≡ 4) where
   abbrev M : Machine
-  M = machine64 z
+  M = machineOf F
 
-  abbrev e : Event
-  e = eventAt es k
+  -- ---- the guest's walk, seen from the rules
 
-  abbrev p : ℕ
-  p = e .proc
+  module _ (p : ℕ) (hp′ : p < z .processors) (a b : ℕ) where
+    abbrev v : ℕ
+    v = pageOf tables64 a
 
-  abbrev page : ℕ
-  page = pageOf tables64 (e .a)
+    abbrev pub rules : List ℕ
+    rules = wordsAt (U F es) es k
 
-  own : p < z .processors
-  own = hp z map begun cr3s es k s h ok
+    pub law : Lawful (seen F es p v) 4 (z .frames)
+    law = view-lawful (U F es) es p v tables64-sound
 
-  room : Sized z
-  room = sized z map begun cr3s es k s h ok
+    pub reads : (w : Walk) → seen F es p v .steps k w ≡ step tables64 (z .frames) w (get tables64 rules (w .frame .0) (index tables64 v (w .level)))
+    unfolding viewOf
+    reads w = refl
 
-  maps : Mapped z map
-  maps = fits z map begun cr3s es k s h ok
+    begins : Kept (seen F es p v) k (start tables64 (guest (shd M (s .shadow) (rootOf M p))))
+    unfolding viewOf
+    begins = begin (ap (λ (n : ℕ). start tables64 (guest n)) (h .roots p hp′))
 
-  pub spare : 4 ≤ z .share
-  spare = accepted-ranged z map s e ok .share .0
+    -- IT ENDS IN A HELD WALK, or a held walk faults as it does
+    pub walk-ends : Ends (seen F es p v) (z .frames) v k rules law reads (walked z map p a b s .ended)
+    walk-ends =
+        walks (seen F es p v) (z .frames) v k rules law reads 4 (s .words) (guest (shd M (s .shadow) (rootOf M p)))
+        (start tables64 (guest (shd M (s .shadow) (rootOf M p)))) (h .words) begins refl .ended
 
-  two : e .kind ≡ 2 → ⊥
-  two x = omega arith
+    ended-whole : {x : Walked} → Ends (seen F es p v) (z .frames) v k rules law reads x → (last : Guest) (w : Walk) → x ≡ Whole last w
+        → Kept (seen F es p v) k w × (w .level ≡ 0)
+    ended-whole (whole {w = w′} held done) last w q = let e : w′ ≡ w = cc in (rw e at held, rw e at done)
+    ended-whole (absent c held gone) last w q = let n : _≡_ {A = ℕ} 0 1 = cc in absurd (omega arith)
+    ended-whole (beyond c held gone) last w q = let n : _≡_ {A = ℕ} 0 1 = cc in absurd (omega arith)
 
-  three : e .kind ≡ 3 → ⊥
-  three x = omega arith
+    pub walk-held : (last : Guest) (w : Walk) → walked z map p a b s .ended ≡ Whole last w → Kept (seen F es p v) k w × (w .level ≡ 0)
+    walk-held last w q = ended-whole walk-ends last w q
 
-  module _ (last : Guest) (w : Walk) (q : walked z map p (e .a) (e .b) s .ended ≡ Whole last w) where
-    abbrev f : State
-    f = fill M map p page (marked z map p (e .a) (e .b) s last)
+  -- ---- after an access
 
-    done : Fills z room spare map maps p own (marked z map p (e .a) (e .b) s last) (marked-right z map p (e .a) (e .b) s room spare maps own (h .right) last w q) page (page-small (e .a))
-        last (w .frame) (w .rights) (marked-leads z map p (e .a) (e .b) s last w q) f
-    done = filling z map p (e .a) (e .b) s room spare maps own (h .right) last w q
+  module _ (ok : callRefusal M map s (eventAt es k) ≡ 0) (four : eventAt es k .kind ≡ 4) where
+    abbrev e : Event
+    e = eventAt es k
 
-    -- the page's own path is a walk of the guest's tables as they are
-    own-path : Pathed z map begun cr3s es (suc k) f p page
-    own-path = record {
-      full = λ here. record {
-        frame = w .frame;
-        inside = end-inside z map p (e .a) (e .b) s room spare maps own (h .right) last w q;
-        mapped = end-frame z map p (e .a) (e .b) s room spare maps own (h .right) last w q;
-        backed =
-            let held = walk-held z map begun cr3s es k s h p own (e .a) (e .b) last w q in
-            stay-backed z map begun cr3s es p page k (quiet-unended z map begun cr3s es p page k two three) (record {
-              walk = w;
-              kept = held .0;
-              complete = held .1;
-              frame = refl;
-              covers = end-covers z map p (e .a) (e .b) s room spare maps own (h .right) last w q;
-            });
-      };
-    }
+    abbrev p : ℕ
+    p = e .proc
 
-    other-path : (r : ℕ) → r < z .processors → (u : ℕ) → u < 2 ^ 36 → (r ≡ p → u ≡ page → ⊥) → Pathed z map begun cr3s es (suc k) f r u
-    other-path r hr u hu ne = record {
-      full = λ here.
-          same-path z map begun cr3s es f (done .built .old .full r hr u hu ne here)
-          (stay-path z map begun cr3s es (quiet-unended z map begun cr3s es r u k two three) (h .paths r hr u hu)) .full here;
-    }
+    abbrev page : ℕ
+    page = pageOf tables64 (e .a)
 
-    same : (r : ℕ) → r < z .processors → (j : ℕ) → j < slotCount → SameSlot (s .slots) (f .slots) r j → Slotted z map begun cr3s es (suc k) f r j
-    same r hr j hj eq =
-        same-slot z map begun cr3s es f eq
-        (stay-slot z map begun cr3s es (quiet-unended z map begun cr3s es r (pageIn (s .slots) r j) k two three) (h .slots r hr j hj))
+    own : p < z .processors
+    own = hp F es k s h ok
 
-    filled : After z map begun cr3s es k s h ok f
-    filled right size = record {
-      right = right;
-      size = size;
-      words = rw (done .words) (kept-words z map begun cr3s es k s h ok (λ x. omega arith) (marked-same z map p (e .a) (e .b) s last));
-      roots = λ r hr. root r hr (ℕ-discrete r p) ∙ h .roots r hr ∙ ap (λ (g : Guest). g .0) (sym (cr3-kept z map begun cr3s es k r three));
-      paths = λ r hr u hu. path r hr u hu (ℕ-discrete r p) (ℕ-discrete u page);
-      slots = λ r hr j hj. slotted r hr j hj (ℕ-discrete r p);
-    }
-      where
-        root : (r : ℕ) → r < z .processors → Dec (r ≡ p) → shd M (f .shadow) (rootOf M r) ≡ shd M (s .shadow) (rootOf M r)
-        root r hr (yes a) = rw a (done .built .stays .root)
-        root r hr (no a) =
-            done .built .stays .others (rootOf M r) (root-table M (able z room map maps) r hr) (λ x. a (sym (root-owner M (able z room map maps) r) ∙ x)) .frame
+    room : Sized z
+    room = sized F es k s h ok
 
-        path : (r : ℕ) → r < z .processors → (u : ℕ) → u < 2 ^ 36 → Dec (r ≡ p) → Dec (u ≡ page) → Pathed z map begun cr3s es (suc k) f r u
-        path r hr u hu (yes a) (yes b) = rw (a, b) own-path
-        path r hr u hu (no a) d = other-path r hr u hu (λ x y. a x)
-        path r hr u hu (yes a) (no b) = other-path r hr u hu (λ x y. b y)
+    maps : Mapped z map
+    maps = fits F es k s h ok
 
-        slotted : (r : ℕ) → r < z .processors → (j : ℕ) → j < slotCount → Dec (r ≡ p) → Slotted z map begun cr3s es (suc k) f r j
-        slotted r hr j hj (no a) = same r hr j hj (done .beside r a j hj)
-        slotted r hr j hj (yes a) = rw a
-            (by-cases (done .own j hj) (λ x. no-slot z map begun cr3s es (λ m. omega (arith, x .mark))) (λ x. same p own j hj (x .0)))
+    pub spare : 4 ≤ z .share
+    spare = accepted-ranged z map s e ok .share .0
 
-  way : {out : Result} → Way z map p (e .a) (e .b) s out → After z map begun cr3s es k s h ok (out .state)
-  way (slot j hj v o) = rw o (still z map begun cr3s es k s h ok (λ x. omega arith) two three (s .words) (same-refl (s .words)))
-  way (shadow x v o) = rw o (still z map begun cr3s es k s h ok (λ x. omega arith) two three (s .words) (same-refl (s .words)))
-  way (fault base x o) = rw o (still z map begun cr3s es k s h ok (λ x. omega arith) two three (walked z map p (e .a) (e .b) s .words) (trod-same z map p (e .a) (e .b) s))
-  way (lacks last w x v o) = rw o (still z map begun cr3s es k s h ok (λ x. omega arith) two three (walked z map p (e .a) (e .b) s .words) (trod-same z map p (e .a) (e .b) s))
-  way (again last w x v o) = rw o (filled last w x)
+    two : e .kind ≡ 2 → ⊥
+    two x = omega arith
 
-  pub accessed : After z map begun cr3s es k s h ok (afterAccess M map p (e .a) (e .b) s .state)
-  accessed = way (ways z map p (e .a) (e .b) s)
+    three : e .kind ≡ 3 → ⊥
+    three x = omega arith
+
+    module _ (last : Guest) (w : Walk) (q : walked z map p (e .a) (e .b) s .ended ≡ Whole last w) where
+      abbrev f : State
+      f = fill M map p page (marked z map p (e .a) (e .b) s last)
+
+      done : Fills z room spare map maps p own (marked z map p (e .a) (e .b) s last) (marked-right z map p (e .a) (e .b) s room spare maps own (h .right) last w q) page (page-small (e .a))
+          last (w .frame) (w .rights) (marked-leads z map p (e .a) (e .b) s last w q) f
+      done = filling z map p (e .a) (e .b) s room spare maps own (h .right) last w q
+
+      -- the page's own path is a walk of the guest's tables as they are
+      own-path : Pathed F es (suc k) f p page
+      own-path = record {
+        full = λ here. record {
+          frame = w .frame;
+          inside = end-inside z map p (e .a) (e .b) s room spare maps own (h .right) last w q;
+          mapped = end-frame z map p (e .a) (e .b) s room spare maps own (h .right) last w q;
+          backed =
+              let held = walk-held p own (e .a) (e .b) last w q in
+              stay-backed F es p page k (quiet-unended F es p page k two three) (record {
+                walk = w;
+                kept = held .0;
+                complete = held .1;
+                frame = refl;
+                covers = end-covers z map p (e .a) (e .b) s room spare maps own (h .right) last w q;
+              });
+        };
+      }
+
+      other-path : (r : ℕ) → r < z .processors → (u : ℕ) → u < 2 ^ 36 → (r ≡ p → u ≡ page → ⊥) → Pathed F es (suc k) f r u
+      other-path r hr u hu ne = record {
+        full = λ here.
+            same-path F es f (done .built .old .full r hr u hu ne here)
+            (stay-path F es (quiet-unended F es r u k two three) (h .paths r hr u hu)) .full here;
+      }
+
+      same : (r : ℕ) → r < z .processors → (j : ℕ) → j < slotCount → SameSlot (s .slots) (f .slots) r j → Slotted F es (suc k) f r j
+      same r hr j hj eq =
+          same-slot F es f eq
+          (stay-slot F es (quiet-unended F es r (pageIn (s .slots) r j) k two three) (h .slots r hr j hj))
+
+      filled : After F es k s h ok f
+      filled right size = record {
+        right = right;
+        size = size;
+        words = rw (done .words) (kept-words F es k s h ok (λ x. omega arith) (marked-same z map p (e .a) (e .b) s last));
+        roots = λ r hr. root r hr (ℕ-discrete r p) ∙ h .roots r hr ∙ ap (λ (g : Guest). g .0) (sym (cr3-kept F es k r three));
+        paths = λ r hr u hu. path r hr u hu (ℕ-discrete r p) (ℕ-discrete u page);
+        slots = λ r hr j hj. slotted r hr j hj (ℕ-discrete r p);
+      }
+        where
+          root : (r : ℕ) → r < z .processors → Dec (r ≡ p) → shd M (f .shadow) (rootOf M r) ≡ shd M (s .shadow) (rootOf M r)
+          root r hr (yes a) = rw a (done .built .stays .root)
+          root r hr (no a) =
+              done .built .stays .others (rootOf M r) (root-table M (able z room map maps) r hr) (λ x. a (sym (root-owner M (able z room map maps) r) ∙ x)) .frame
+
+          path : (r : ℕ) → r < z .processors → (u : ℕ) → u < 2 ^ 36 → Dec (r ≡ p) → Dec (u ≡ page) → Pathed F es (suc k) f r u
+          path r hr u hu (yes a) (yes b) = rw (a, b) own-path
+          path r hr u hu (no a) d = other-path r hr u hu (λ x y. a x)
+          path r hr u hu (yes a) (no b) = other-path r hr u hu (λ x y. b y)
+
+          slotted : (r : ℕ) → r < z .processors → (j : ℕ) → j < slotCount → Dec (r ≡ p) → Slotted F es (suc k) f r j
+          slotted r hr j hj (no a) = same r hr j hj (done .beside r a j hj)
+          slotted r hr j hj (yes a) = rw a
+              (by-cases (done .own j hj) (λ x. no-slot F es (λ m. omega (arith, x .mark))) (λ x. same p own j hj (x .0)))
+
+    way : {out : Result} → Way z map p (e .a) (e .b) s out → After F es k s h ok (out .state)
+    way (slot j hj v o) = rw o (still F es k s h ok (λ x. omega arith) two three (s .words) (same-refl (s .words)))
+    way (shadow x v o) = rw o (still F es k s h ok (λ x. omega arith) two three (s .words) (same-refl (s .words)))
+    way (fault base x o) = rw o (still F es k s h ok (λ x. omega arith) two three (walked z map p (e .a) (e .b) s .words) (trod-same z map p (e .a) (e .b) s))
+    way (lacks last w x v o) = rw o (still F es k s h ok (λ x. omega arith) two three (walked z map p (e .a) (e .b) s .words) (trod-same z map p (e .a) (e .b) s))
+    way (again last w x v o) = rw o (filled last w x)
+
+    pub accessed : After F es k s h ok (afterAccess M map p (e .a) (e .b) s .state)
+    accessed = way (ways z map p (e .a) (e .b) s)

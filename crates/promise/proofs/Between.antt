@@ -1,27 +1,23 @@
 -- Between the puts: what may stand there leaves the page's path as it is.
-use mathlib.Core.Path.{_≡_, refl, sym, ap, subst, _∙_}
+use mathlib.Core.Path.{_≡_, refl, sym, ap, _∙_}
 use mathlib.Core.List.{List}
-use mathlib.Core.Bool.{Bool, true, false, not, _&&_, _||_}
-use mathlib.Core.Logic.{_⊎_, inl, inr}
-use Prim.Native.Nat.{ℕ, zero, suc, _+_, _*_, _^_, _≤_, _<_}
-use native.Mathlib.Decide.{ℕ-discrete}
+use Prim.Native.Nat.{ℕ, _≤_, _<_}
 use native.Mathlib.Omega.{arith}
-use lib.Dec.{T, eqb}
+use lib.Dec.{T}
 use borrow.Author.Tests.{eq-eqb, ne-eqb}
 use Rattle.paging.specs.declared.Request.{Request}
-use Rattle.paging.specs.Layout.{tables64, pageOf, rightsOf, isPresent}
+use Rattle.paging.specs.Layout.{tables64, rightsOf, isPresent}
 use Rattle.paging.specs.Request.{enough}
 use Rattle.paging.specs.Walk.{meet}
 use Rattle.rules.specs.declared.Event.{Event}
 use Rattle.tables.specs.declared.Sizes.{Sizes}
-use Rattle.tables.specs.declared.Path.{Path}
-use Rattle.tables.specs.State.{Machine, Shadow, State, machine64, tableCount, ownerOf, top, nextEntry, descend, pathTo, Sized}
+use Rattle.tables.specs.State.{Machine, Shadow, State, machine64, tableCount, ownerOf, nextEntry, pathTo, Sized}
 use Rattle.tables.proofs.Counts.{by-cases}
-use Rattle.shadow.specs.After.{Result, callRefusal, after, afterStore, afterInvlpg, afterCr3, afterAccess, afterBegin, afterExtend, afterLoss}
+use Rattle.shadow.specs.After.{Result, callRefusal, after, afterBegin, afterLoss}
 use Rattle.shadow.proofs.Accepted.{accepted-ranged, accepted-sized, accepted-own}
-use Rattle.trees.proofs.Trees.{Exact, Same, Trees}
+use Rattle.trees.proofs.Trees.{Same, Trees}
 use Rattle.trees.proofs.Paths.{same-path, same-entry}
-use Rattle.keeps.proofs.Right.{Mapped, Right, Reshaped, able}
+use Rattle.keeps.proofs.Right.{Mapped, Right, able}
 use Rattle.keeps.proofs.Moves.{extends}
 use Rattle.keeps.proofs.Takes.{invlpg-reshapes, cr3-reshapes}
 use Rattle.keeps.proofs.Accesses.{Way, slot, shadow, fault, lacks, again, ways, filling-reshapes}
@@ -38,7 +34,8 @@ serves-by z p page q s s′ e sv = record {
       ∙ sv .good;
 }
 
-module _ (z : Sizes) (map : List ℕ) (s : State) (e : Event) (ok : callRefusal (machine64 z) map s e ≡ 0) (p page : ℕ) (hp : p < z .processors) (q : Request) (sv : Serves z s p page q) where
+module _ (z : Sizes) (map : List ℕ) (s : State) (e : Event) (ok : callRefusal (machine64 z) map s e ≡ 0) (p page : ℕ) (hp : p < z .processors) (q : Request)
+    (sv : Serves z s p page q) where
   abbrev M : Machine
   M = machine64 z
 
@@ -58,7 +55,8 @@ module _ (z : Sizes) (map : List ℕ) (s : State) (e : Event) (ok : callRefusal 
   spare = accepted-ranged z map s e ok .share .0
 
   -- another processor's work on its own tables
-  apart : (s′ : State) → Trees M map (s′ .shadow) → (e .proc ≡ p → ⊥) → ((v : ℕ) → v < tableCount M → (ownerOf M v ≡ e .proc → ⊥) → Same M (s .shadow) (s′ .shadow) v) → Serves z s′ p page q
+  apart : (s′ : State) → Trees M map (s′ .shadow) → (e .proc ≡ p → ⊥)
+      → ((v : ℕ) → v < tableCount M → (ownerOf M v ≡ e .proc → ⊥) → Same M (s .shadow) (s′ .shadow) v) → Serves z s′ p page q
   apart s′ trees ne others =
       let same : (v : ℕ) → v < tableCount M → ownerOf M v ≡ p → Same M (s .shadow) (s′ .shadow) v = λ v hv o. others v hv (λ x. ne (sym x ∙ o)) in
       let path = same-path M (able z sized map fits) map (fits .outside) (s .shadow) (s′ .shadow) (right .law .trees) (trees .exact) page p hp same 3 (omega arith) in

@@ -1,38 +1,42 @@
--- Every accepted event carries the invariant to the next moment.
+-- The invariant is carried to the next moment, kind by kind: store, INVLPG, CR3 write, begin and a slot that is lost.
 use mathlib.Core.Path.{_≡_, refl, sym, ap, subst, _∙_}
-use mathlib.Core.Bool.{Bool, true, false}
+use mathlib.Core.Bool.{false}
 use mathlib.Core.List.{List}
-use mathlib.Core.Logic.{_⊎_, inl, inr}
-use Prim.Native.Nat.{ℕ, zero, suc, _+_, _-_, _*_, _^_, _≤_, _<_}
+use Prim.Native.Nat.{ℕ, suc, _+_, _*_, _^_, _<_}
 use native.Mathlib.Decide.{ℕ-discrete}
 use native.Mathlib.Omega.{arith}
-use lib.ListN.{length, getD, set, length-set}
+use lib.ListN.{length, getD}
 use Rattle.paging.specs.declared.Guest.{Guest}
-use Rattle.paging.specs.Frame.{guest}
-use Rattle.paging.specs.Layout.{tables64, frameWords, pageOf, isPresent}
+use Rattle.paging.specs.Layout.{tables64, frameWords, pageOf}
 use Rattle.rules.specs.declared.Event.{Event}
 use Rattle.rules.specs.History.{eventAt, wordsAt, cr3At}
 use Rattle.tables.specs.declared.Sizes.{Sizes}
-use Rattle.tables.specs.State.{Machine, Shadow, State, stateOf, machine64, slotCount, markOf, pageIn, tableCount, ownerOf, rootOf, nextEntry, pathTo, Sized}
+use Rattle.tables.specs.State.{Machine, Shadow, State, stateOf, slotCount, markOf, pageIn, rootOf, nextEntry, pathTo, Sized}
 use Rattle.tables.specs.Steps.{emptySlots}
 use Rattle.tables.proofs.Counts.{by-cases}
-use Rattle.shadow.specs.After.{Result, callRefusal, after, afterStore, afterInvlpg, afterCr3, afterAccess, afterBegin, afterExtend, afterLoss}
-use Rattle.shadow.proofs.Accepted.{accepted-ranged, accepted-sized, accepted-own}
-use Rattle.trees.proofs.Trees.{shd, Less}
+use Rattle.shadow.specs.After.{callRefusal, afterStore, afterInvlpg, afterCr3, afterBegin, afterLoss}
+use Rattle.shadow.proofs.Accepted.{accepted-sized, accepted-own}
+use Rattle.trees.proofs.Trees.{shd}
 use Rattle.trees.proofs.Paths.{less-full}
 use Rattle.trees.proofs.Roots.{root-table, root-owner}
-use Rattle.trees.proofs.Slots.{SameSlot, Empty, Room, with-other, with-mark, emptied-here, emptySlots-other, emptySlots-here, flush-others, flush-here}
+use Rattle.trees.proofs.Slots.{SameSlot, Room, with-other, with-mark, emptySlots-other, emptySlots-here, flush-others, flush-here}
 use Rattle.keeps.proofs.Alikes.{Same, same-refl, same-trans, same-store}
 use Rattle.keeps.proofs.Right.{Mapped, Right, able, room}
 use Rattle.keeps.proofs.Takes.{Takes, invlpg-takes, cr3-takes, cr3-root}
-use Rattle.keeps.proofs.Events.{accepted-mapped, Kind, store, invlpg, cr3, access, begin, extend, loss, kinds}
-use Rattle.keeps.proofs.Theorems.{right-after, words-after}
+use Rattle.keeps.proofs.Events.{accepted-mapped}
+use Rattle.promise.specs.Demand.{Fresh, machineOf}
 use Rattle.promise.proofs.Holds.{U, ends, Holds, Pathed, Slotted, stay-path, stay-slot, same-path, no-path, same-slot, no-slot, other-unended, page-unended, quiet-unended, words-store, words-kept, cr3-written, cr3-other, cr3-kept}
 
-module _ (z : Sizes) (map start cr3s : List ℕ) (es : List Event) (k : ℕ) (s : State) (h : Holds z map start cr3s es k s)
-    (ok : callRefusal (machine64 z) map s (eventAt es k) ≡ 0) where
+module _ (F : Fresh) (es : List Event) (k : ℕ) (s : State) (h : Holds F es k s)
+    (ok : callRefusal (machineOf F) (F .map) s (eventAt es k) ≡ 0) where
+  abbrev z : Sizes
+  z = F .sizes
+
+  abbrev map : List ℕ
+  map = F .map
+
   abbrev M : Machine
-  M = machine64 z
+  M = machineOf F
 
   abbrev e : Event
   e = eventAt es k
@@ -50,7 +54,7 @@ module _ (z : Sizes) (map start cr3s : List ℕ) (es : List Event) (k : ℕ) (s 
   hp = accepted-own z map s e ok
 
   abbrev pub After : State → Type 0
-  After s′ = Right z map s′ → length (s′ .words) ≡ frameWords * z .frames → Holds z map start cr3s es (suc k) s′
+  After s′ = Right z map s′ → length (s′ .words) ≡ frameWords * z .frames → Holds F es (suc k) s′
 
   same-slots : {a b : List ℕ} → b ≡ a → (q j : ℕ) → SameSlot a b q j
   same-slots {a} {b} e q j = record { mark = ap (λ (l : List ℕ). markOf l q j) e; page = ap (λ (l : List ℕ). pageIn l q j) e; third = ap (λ (l : List ℕ). getD l (24 * q + 3 * j + 2) 0) e }
@@ -58,34 +62,34 @@ module _ (z : Sizes) (map start cr3s : List ℕ) (es : List Event) (k : ℕ) (s 
   -- ---- events that leave the tables alone
 
   module _ (s′ : State) (tables : s′ .shadow ≡ s .shadow) (two : e .kind ≡ 2 → ⊥) (three : e .kind ≡ 3 → ⊥) where
-    quiet-slot : (q j : ℕ) → q < z .processors → j < slotCount → SameSlot (s .slots) (s′ .slots) q j → Slotted z map start cr3s es (suc k) s′ q j
+    quiet-slot : (q j : ℕ) → q < z .processors → j < slotCount → SameSlot (s .slots) (s′ .slots) q j → Slotted F es (suc k) s′ q j
     quiet-slot q j hq hj same =
-        same-slot z map start cr3s es s′ same
-        (stay-slot z map start cr3s es (quiet-unended z map start cr3s es q (pageIn (s .slots) q j) k two three) (h .slots q hq j hj))
+        same-slot F es s′ same
+        (stay-slot F es (quiet-unended F es q (pageIn (s .slots) q j) k two three) (h .slots q hq j hj))
 
-    quiet : Same (s′ .words) (wordsAt (U z map start cr3s es) es (suc k))
-        → ((q : ℕ) → q < z .processors → (j : ℕ) → j < slotCount → Slotted z map start cr3s es (suc k) s′ q j) → After s′
+    quiet : Same (s′ .words) (wordsAt (U F es) es (suc k))
+        → ((q : ℕ) → q < z .processors → (j : ℕ) → j < slotCount → Slotted F es (suc k) s′ q j) → After s′
     quiet words slots right size = record {
       right = right;
       size = size;
       words = words;
-      roots = λ q hq. ap (λ (x : Shadow). shd M x (rootOf M q)) tables ∙ h .roots q hq ∙ ap (λ (g : Guest). g .0) (sym (cr3-kept z map start cr3s es k q three));
+      roots = λ q hq. ap (λ (x : Shadow). shd M x (rootOf M q)) tables ∙ h .roots q hq ∙ ap (λ (g : Guest). g .0) (sym (cr3-kept F es k q three));
       paths = λ q hq v hv.
-          same-path z map start cr3s es s′
+          same-path F es s′
           (ap (λ (x : Shadow). pathTo M (x .pool) q v 1) tables, ap (λ (x : Shadow). nextEntry M (x .pool) v (pathTo M (x .pool) q v 1)) tables)
-          (stay-path z map start cr3s es (quiet-unended z map start cr3s es q v k two three) (h .paths q hq v hv));
+          (stay-path F es (quiet-unended F es q v k two three) (h .paths q hq v hv));
       slots = slots;
     }
 
-  pub kept-words : (e .kind ≡ 1 → ⊥) → {words : List ℕ} → Same words (s .words) → Same words (wordsAt (U z map start cr3s es) es (suc k))
-  kept-words ne same = rw (words-kept z map start cr3s es k ne) (same-trans same (h .words))
+  pub kept-words : (e .kind ≡ 1 → ⊥) → {words : List ℕ} → Same words (s .words) → Same words (wordsAt (U F es) es (suc k))
+  kept-words ne same = rw (words-kept F es k ne) (same-trans same (h .words))
 
   -- ---- by kind
 
   pub stored : e .kind ≡ 1 → After (afterStore (e .a) (e .b) s .state)
   stored q =
       quiet (afterStore (e .a) (e .b) s .state) refl (λ x. omega arith) (λ x. omega arith)
-      (rw (words-store z map start cr3s es k q) (same-store (e .a) (e .b) (h .words)))
+      (rw (words-store F es k q) (same-store (e .a) (e .b) (h .words)))
       (λ r hr j hj. quiet-slot (afterStore (e .a) (e .b) s .state) refl (λ x. omega arith) (λ x. omega arith) r j hr hj (same-slots refl r j))
 
   -- nothing is changed but A and D
@@ -96,11 +100,11 @@ module _ (z : Sizes) (map start cr3s : List ℕ) (es : List Event) (k : ℕ) (s 
 
   -- one slot of p is changed, and what it holds is backed
   pub one-slot : (e .kind ≡ 1 → ⊥) → (e .kind ≡ 2 → ⊥) → (e .kind ≡ 3 → ⊥) → (s′ : State) → s′ .shadow ≡ s .shadow → s′ .words ≡ s .words → (i : ℕ)
-      → ((q j : ℕ) → j < slotCount → (q ≡ p → j ≡ i → ⊥) → SameSlot (s .slots) (s′ .slots) q j) → Slotted z map start cr3s es (suc k) s′ p i → After s′
+      → ((q j : ℕ) → j < slotCount → (q ≡ p → j ≡ i → ⊥) → SameSlot (s .slots) (s′ .slots) q j) → Slotted F es (suc k) s′ p i → After s′
   one-slot one two three s′ tables words i same new =
       quiet s′ tables two three (kept-words one (subst (λ (l : List ℕ). Same (s′ .words) l) words (same-refl (s′ .words)))) (λ q hq j hj. go q hq j hj (ℕ-discrete q p) (ℕ-discrete j i))
     where
-      go : (q : ℕ) → q < z .processors → (j : ℕ) → j < slotCount → Dec (q ≡ p) → Dec (j ≡ i) → Slotted z map start cr3s es (suc k) s′ q j
+      go : (q : ℕ) → q < z .processors → (j : ℕ) → j < slotCount → Dec (q ≡ p) → Dec (j ≡ i) → Slotted F es (suc k) s′ q j
       go q hq j hj (yes a) (yes b) = rw (a, b) new
       go q hq j hj (no a) d = quiet-slot s′ tables two three q j hq hj (same q j hj (λ x y. a x))
       go q hq j hj (yes a) (no b) = quiet-slot s′ tables two three q j hq hj (same q j hj (λ x y. b y))
@@ -114,34 +118,34 @@ module _ (z : Sizes) (map start cr3s : List ℕ) (es : List Event) (k : ℕ) (s 
       let v = pageOf tables64 (e .a) in
       one-slot (λ x. omega arith) (λ x. omega arith) (λ x. omega arith) (afterBegin M p (e .a) (e .b) s .state) refl refl (e .b)
       (λ r j hj ne. with-other p (e .b) 5 v (rootOf M p) 7 (s .slots) r j hb hj ne)
-      (no-slot z map start cr3s es (λ x. omega (arith, with-mark p (e .b) 5 v (rootOf M p) 7 (s .slots) hb here)))
+      (no-slot F es (λ x. omega (arith, with-mark p (e .b) 5 v (rootOf M p) 7 (s .slots) hb here)))
 
   pub lost : e .kind ≡ 7 → e .a < 8 → After (afterLoss p (e .a) s .state)
   unfolding afterLoss
   lost q ha =
       one-slot (λ x. omega arith) (λ x. omega arith) (λ x. omega arith) (afterLoss p (e .a) s .state) refl refl (e .a)
       (λ r j hj ne. with-other p (e .a) 0 0 0 0 (s .slots) r j ha hj ne)
-      (no-slot z map start cr3s es (λ x. omega (arith, with-mark p (e .a) 0 0 0 0 (s .slots) ha here)))
+      (no-slot F es (λ x. omega (arith, with-mark p (e .a) 0 0 0 0 (s .slots) ha here)))
 
   -- ---- events that take entries away
 
   module _ (s′ : State) (v : ℕ) (t : Takes z sized map fits p hp s (h .right) v (s′ .shadow)) where
     -- another processor's path, or another page's
-    left-path : (q : ℕ) → q < z .processors → (u : ℕ) → u < 2 ^ 36 → ends z map start cr3s es q u k ≡ false → Pathed z map start cr3s es (suc k) s′ q u
+    left-path : (q : ℕ) → q < z .processors → (u : ℕ) → u < 2 ^ 36 → ends F es q u k ≡ false → Pathed F es (suc k) s′ q u
     left-path q hq u hu unended = record {
       full = λ there.
-          same-path z map start cr3s es s′ (less-full M (able z sized map fits) (s .shadow) (s′ .shadow) (t .trees .exact) (t .less) u q there)
-          (stay-path z map start cr3s es unended (h .paths q hq u hu)) .full there;
+          same-path F es s′ (less-full M (able z sized map fits) (s .shadow) (s′ .shadow) (t .trees .exact) (t .less) u q there)
+          (stay-path F es unended (h .paths q hq u hu)) .full there;
     }
 
-    gone-path : Pathed z map start cr3s es (suc k) s′ p v
-    gone-path = no-path z map start cr3s es (t .gone)
+    gone-path : Pathed F es (suc k) s′ p v
+    gone-path = no-path F es (t .gone)
 
     -- another processor's slot
-    left-slot : (q : ℕ) → q < z .processors → (q ≡ p → ⊥) → (j : ℕ) → j < slotCount → SameSlot (s .slots) (s′ .slots) q j → Slotted z map start cr3s es (suc k) s′ q j
+    left-slot : (q : ℕ) → q < z .processors → (q ≡ p → ⊥) → (j : ℕ) → j < slotCount → SameSlot (s .slots) (s′ .slots) q j → Slotted F es (suc k) s′ q j
     left-slot q hq ne j hj same =
-        same-slot z map start cr3s es s′ same
-        (stay-slot z map start cr3s es (other-unended z map start cr3s es q (pageIn (s .slots) q j) k ne) (h .slots q hq j hj))
+        same-slot F es s′ same
+        (stay-slot F es (other-unended F es q (pageIn (s .slots) q j) k ne) (h .slots q hq j hj))
 
   -- INVLPG ends what is of its page
   pub invalidated : e .kind ≡ 2 → After (afterInvlpg M p (e .a) s .state)
@@ -150,7 +154,7 @@ module _ (z : Sizes) (map start cr3s : List ℕ) (es : List Event) (k : ℕ) (s 
     right = right;
     size = size;
     words = kept-words (λ x. omega arith) (same-refl (s .words));
-    roots = λ q hq. h .roots q hq ∙ ap (λ (g : Guest). g .0) (sym (cr3-kept z map start cr3s es k q (λ x. omega arith)));
+    roots = λ q hq. h .roots q hq ∙ ap (λ (g : Guest). g .0) (sym (cr3-kept F es k q (λ x. omega arith)));
     paths = λ q hq u hu. path q hq u hu (ℕ-discrete q p) (ℕ-discrete u v);
     slots = λ q hq j hj. slot q hq j hj (ℕ-discrete q p);
   }
@@ -164,19 +168,19 @@ module _ (z : Sizes) (map start cr3s : List ℕ) (es : List Event) (k : ℕ) (s 
       t : Takes z sized map fits p hp s (h .right) v (s′ .shadow)
       t = invlpg-takes z sized map fits p hp s (h .right) (e .a)
 
-      path : (q : ℕ) → q < z .processors → (u : ℕ) → u < 2 ^ 36 → Dec (q ≡ p) → Dec (u ≡ v) → Pathed z map start cr3s es (suc k) s′ q u
+      path : (q : ℕ) → q < z .processors → (u : ℕ) → u < 2 ^ 36 → Dec (q ≡ p) → Dec (u ≡ v) → Pathed F es (suc k) s′ q u
       path q hq u hu (yes a) (yes b) = rw (a, b) (gone-path s′ v t)
-      path q hq u hu (no a) d = left-path s′ v t q hq u hu (other-unended z map start cr3s es q u k a)
-      path q hq u hu (yes a) (no b) = left-path s′ v t q hq u hu (page-unended z map start cr3s es q u k two b)
+      path q hq u hu (no a) d = left-path s′ v t q hq u hu (other-unended F es q u k a)
+      path q hq u hu (yes a) (no b) = left-path s′ v t q hq u hu (page-unended F es q u k two b)
 
-      slot : (q : ℕ) → q < z .processors → (j : ℕ) → j < slotCount → Dec (q ≡ p) → Slotted z map start cr3s es (suc k) s′ q j
+      slot : (q : ℕ) → q < z .processors → (j : ℕ) → j < slotCount → Dec (q ≡ p) → Slotted F es (suc k) s′ q j
       slot q hq j hj (no a) = left-slot s′ v t q hq a j hj (flush-others p v (s .slots) q j hj a)
       slot q hq j hj (yes a) = rw a
           (by-cases (flush-here p v (s .slots) j hj here)
           (λ x. by-cases (x .1)
-          (λ y. no-slot z map start cr3s es (λ m. omega (arith, x .0 .mark)))
-          (λ y. same-slot z map start cr3s es s′ (x .0) (stay-slot z map start cr3s es (page-unended z map start cr3s es p (pageIn (s .slots) p j) k two (y .1)) (h .slots p hp j hj))))
-          (λ x. no-slot z map start cr3s es (λ m. omega (arith, x .mark))))
+          (λ y. no-slot F es (λ m. omega (arith, x .0 .mark)))
+          (λ y. same-slot F es s′ (x .0) (stay-slot F es (page-unended F es p (pageIn (s .slots) p j) k two (y .1)) (h .slots p hp j hj))))
+          (λ x. no-slot F es (λ m. omega (arith, x .mark))))
 
   -- a CR3 write ends everything of p
   pub written : e .kind ≡ 3 → e .a < z .frames → After (afterCr3 M p (e .a) s .state)
@@ -201,18 +205,18 @@ module _ (z : Sizes) (map start cr3s : List ℕ) (es : List Event) (k : ℕ) (s 
       t : (v : ℕ) → Takes z sized map fits p hp s (h .right) v (s′ .shadow)
       t v = cr3-takes z sized map fits p hp s (h .right) (e .a) hf v
 
-      root : (q : ℕ) → q < z .processors → Dec (q ≡ p) → shd M (s′ .shadow) (rootOf M q) ≡ cr3At (U z map start cr3s es) es q (suc k) .0
+      root : (q : ℕ) → q < z .processors → Dec (q ≡ p) → shd M (s′ .shadow) (rootOf M q) ≡ cr3At (U F es) es q (suc k) .0
       root q hq (yes a) =
           ap (λ (x : ℕ). shd M (s′ .shadow) (rootOf M x)) a ∙ cr3-root z sized map fits p hp s (h .right) (e .a) hf
-          ∙ ap (λ (g : Guest). g .0) (sym (cr3-written z map start cr3s es k q a three))
+          ∙ ap (λ (g : Guest). g .0) (sym (cr3-written F es k q a three))
       root q hq (no a) =
           t 0 .others (rootOf M q) (root-table M (able z sized map fits) q hq) (λ x. a (sym (root-owner M (able z sized map fits) q) ∙ x)) .frame
-          ∙ h .roots q hq ∙ ap (λ (g : Guest). g .0) (sym (cr3-other z map start cr3s es k q a))
+          ∙ h .roots q hq ∙ ap (λ (g : Guest). g .0) (sym (cr3-other F es k q a))
 
-      path : (q : ℕ) → q < z .processors → (u : ℕ) → u < 2 ^ 36 → Dec (q ≡ p) → Pathed z map start cr3s es (suc k) s′ q u
+      path : (q : ℕ) → q < z .processors → (u : ℕ) → u < 2 ^ 36 → Dec (q ≡ p) → Pathed F es (suc k) s′ q u
       path q hq u hu (yes a) = rw a (gone-path s′ u (t u))
-      path q hq u hu (no a) = left-path s′ u (t u) q hq u hu (other-unended z map start cr3s es q u k a)
+      path q hq u hu (no a) = left-path s′ u (t u) q hq u hu (other-unended F es q u k a)
 
-      slot : (q : ℕ) → q < z .processors → (j : ℕ) → j < slotCount → Dec (q ≡ p) → Slotted z map start cr3s es (suc k) s′ q j
+      slot : (q : ℕ) → q < z .processors → (j : ℕ) → j < slotCount → Dec (q ≡ p) → Slotted F es (suc k) s′ q j
       slot q hq j hj (no a) = left-slot s′ 0 (t 0) q hq a j hj (rw slots-of (emptySlots-other p (s .slots) q j hj a))
-      slot q hq j hj (yes a) = rw a (no-slot z map start cr3s es (λ m. omega (arith, emptySlots-here p (s .slots) j hj here .mark, ap (λ (l : List ℕ). markOf l p j) slots-of)))
+      slot q hq j hj (yes a) = rw a (no-slot F es (λ m. omega (arith, emptySlots-here p (s .slots) j hj here .mark, ap (λ (l : List ℕ). markOf l p j) slots-of)))

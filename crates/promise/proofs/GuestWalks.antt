@@ -1,8 +1,8 @@
 -- The machine's walk of the guest's tables, on words that agree with the rules' but for A and D, passes held walks only:
 -- its end is a held walk, or a held walk faults as it does.
-use mathlib.Core.Path.{_≡_, refl, sym, _∙_, ap}
+use mathlib.Core.Path.{_≡_, refl, sym, _∙_}
 use mathlib.Core.List.{List}
-use Prim.Native.Nat.{ℕ, zero, suc, _-_, _≤_, _<_}
+use Prim.Native.Nat.{ℕ, zero, suc}
 use native.Mathlib.Omega.{arith}
 use Rattle.paging.specs.declared.Guest.{Guest}
 use Rattle.paging.specs.declared.Walk.{Walk}
@@ -15,7 +15,7 @@ use Rattle.rules.proofs.Lawful.{Lawful}
 use Rattle.rules.proofs.Steps.{Kept, extend}
 use Rattle.tables.specs.declared.Walked.{Walked}
 use Rattle.tables.specs.declared.Walked.the-variants.{Whole, Fault}
-use Rattle.tables.specs.Steps.{Trod, trod, byStep, walkFrom}
+use Rattle.tables.specs.Steps.{Trod, byStep, walkFrom}
 use Rattle.keeps.proofs.Alikes.{Same, same-trans, same-mark-a, same-step}
 
 module _ (seen : View) (G page k : ℕ) (rules : List ℕ) (law : Lawful seen 4 G)

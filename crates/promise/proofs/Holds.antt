@@ -1,40 +1,41 @@
 -- THE INVARIANT of demand 3: what the machine holds at a moment, seen from the rules.
 use mathlib.Core.Path.{_≡_, refl, sym, ap, subst, _∙_}
-use mathlib.Core.Bool.{Bool, true, false, cond, not, _&&_, _||_}
+use mathlib.Core.Bool.{Bool, true, false, cond, _&&_, _||_}
 use mathlib.Core.List.{List}
-use Prim.Native.Nat.{ℕ, zero, suc, _+_, _*_, _^_, _≤_, _<_}
-use native.Mathlib.Omega.{arith}
-use lib.Dec.{T, eqb}
+use Prim.Native.Nat.{ℕ, suc, _*_, _^_, _<_}
+use lib.Dec.{eqb}
 use lib.ListN.{length, getD, set}
 use borrow.Author.Tests.{eq-eqb, ne-eqb}
 use Rattle.paging.specs.declared.Guest.{Guest}
-use Rattle.paging.specs.declared.Walk.{Walk}
 use Rattle.paging.specs.Frame.{guest}
 use Rattle.paging.specs.Layout.{tables64, frameWords, pageOf, frameOf, rightsOf, isPresent}
 use Rattle.paging.specs.Walk.{meet}
 use Rattle.paging.proofs.Tests.{false-T}
 use Rattle.rules.specs.declared.Event.{Event}
-use Rattle.rules.specs.History.{Setup, setup64, isStore, isInvlpg, isCr3Write, isBy, eventAt, wordsAt, cr3At}
+use Rattle.rules.specs.History.{Setup, isInvlpg, isCr3Write, isBy, eventAt, wordsAt, cr3At}
 use Rattle.rules.specs.View.{View, viewOf, endsCompleteOf}
-use Rattle.rules.proofs.Steps.{Kept, stay, byLevel}
+use Rattle.rules.proofs.Steps.{stay}
 use Rattle.tables.specs.declared.Sizes.{Sizes}
 use Rattle.tables.specs.declared.Path.{Path}
-use Rattle.tables.specs.State.{Machine, Shadow, State, stateOf, machine64, slotCount, markOf, pageIn, placeIn, rightsIn, rootOf, nextEntry, pathTo}
+use Rattle.tables.specs.State.{Machine, State, slotCount, markOf, pageIn, placeIn, rightsIn, rootOf, nextEntry, pathTo}
 use Rattle.trees.proofs.Trees.{shd}
 use Rattle.trees.proofs.Paths.{FullSame}
 use Rattle.trees.proofs.Slots.{SameSlot}
 use Rattle.trees.proofs.SlotRules.{same-place, same-rights}
 use Rattle.keeps.proofs.Alikes.{Same}
 use Rattle.keeps.proofs.Right.{Right}
+use Rattle.promise.specs.Demand.{Fresh, machineOf, guestOf}
 use Rattle.promise.proofs.Settles.{Backed}
 
-module _ (z : Sizes) (map start cr3s : List ℕ) (es : List Event) where
-  abbrev pub M : Machine
-  M = machine64 z
+module _ (F : Fresh) (es : List Event) where
+  abbrev z : Sizes
+  z = F .sizes
 
-  -- the same guest, for the rules
+  abbrev M : Machine
+  M = machineOf F
+
   abbrev pub U : Setup
-  U = setup64 (z .frames) (z .processors) start cr3s
+  U = guestOf F
 
   abbrev pub seen : ℕ → ℕ → View
   seen p v = viewOf U es p v
@@ -43,7 +44,7 @@ module _ (z : Sizes) (map start cr3s : List ℕ) (es : List Event) where
   pub record Behind (p v k host rights : ℕ) : Type 0 where
     pub frame : Guest
     pub inside : frame .0 < z .frames
-    pub mapped : host ≡ getD map (frame .0) 0
+    pub mapped : host ≡ getD (F .map) (frame .0) 0
     pub backed : Backed (seen p v) k frame rights
 
   abbrev pub pathOf : State → ℕ → ℕ → Path
@@ -61,7 +62,7 @@ module _ (z : Sizes) (map start cr3s : List ℕ) (es : List Event) where
     pub complete : markOf (s .slots) p j ≡ 1 → Backed (seen p (pageIn (s .slots) p j)) k (guest (placeIn (s .slots) p j)) (rightsIn (s .slots) p j)
 
   pub record Holds (k : ℕ) (s : State) : Type 0 where
-    pub right : Right z map s
+    pub right : Right z (F .map) s
     pub size : length (s .words) ≡ frameWords * z .frames
     pub words : Same (s .words) (wordsAt U es k)
     pub roots : (p : ℕ) → p < z .processors → shd M (s .shadow) (rootOf M p) ≡ cr3At U es p k .0

@@ -1,8 +1,8 @@
 -- Document 01's own run meets the hypotheses of demand 3, and its answers are computed: both branches are there.
 use mathlib.Core.Path.{_≡_, refl, sym, ap, ap₂, _∙_}
 use mathlib.Core.Bool.{Bool, true, false, _&&_}
-use mathlib.Core.List.{List, [], _∷_}
-use mathlib.Core.Logic.{_⊎_, inl, inr}
+use mathlib.Core.List.{List, _∷_}
+use mathlib.Core.Logic.{inl, inr}
 use Prim.Native.Nat.{ℕ, zero, suc, _*_, _≤_, _<_}
 use native.Mathlib.Omega.{arith}
 use lib.Dec.{eqb, ltb}
@@ -21,7 +21,7 @@ use Rattle.paging.proofs.Tests.{both}
 use Rattle.shadow.specs.After.{Result, rangesFit, lengthsFit, poolFits, inPool, framesFit, rooted, setupRefusal}
 use Rattle.keeps.proofs.Events as events
 use Rattle.promise.specs.Demand as D
-use Rattle.promise.specs.Demand.{Fresh, Run, machineOf, guestOf, losing, does, stateAt, before, answerAt, Says, place, code, Settles, SettlesInTwo}
+use Rattle.promise.specs.Demand.{Fresh, Run, machineOf, guestOf, losing, stateAt, before, answerAt, Says, place, code, Settles, SettlesInTwo}
 use Rattle.promise.specs.Known.{KnownRun, runOf, stored, narrowed}
 use Rattle.promise.proofs.Quick.{quickly, quickAt, quickAnswer, stored-quick, narrowed-quick}
 use Rattle.promise.proofs.Runs.{accepted}
@@ -38,30 +38,38 @@ module _ (n : KnownRun) where
   abbrev F : Fresh
   F = n .machine
 
+  abbrev setup? : Bool
+  setup? = eqb (setupRefusal (machineOf F) (F .map) (F .cr3s) (D.begun F)) 0
+
+  abbrev words? : Bool
+  words? = eqb (length (F .words)) (512 * F .sizes .frames)
+
+  abbrev starts? : ℕ → Bool
+  starts? p = ltb (getD (F .cr3s) p 0) (F .sizes .frames)
+
+  abbrev event? : ℕ → Bool
+  event? k = eqb (eventRefusal (guestOf F) (eventAt (n .events) k)) 0
+
   unfoldable pub fits? : Bool
-  fits? =
-      eqb (setupRefusal (machineOf F) (F .map) (F .cr3s) (D.begun F)) 0
-      && eqb (length (F .words)) (512 * F .sizes .frames)
-      && all (F .sizes .processors) (λ p. ltb (getD (F .cr3s) p 0) (F .sizes .frames))
-      && all (length (n .events)) (λ k. eqb (eventRefusal (guestOf F) (eventAt (n .events) k)) 0)
+  fits? = setup? && words? && all (F .sizes .processors) starts? && all (length (n .events)) event?
 
   module _ (ok : fits? ≡ true) where
-    pub known-sized : D.Sized F
+    passed : (setup? ≡ true) × (words? ≡ true) × (all (F .sizes .processors) starts? ≡ true) × (all (length (n .events)) event? ≡ true)
     unfolding fits?
-    known-sized =
-        let a = both (eqb (setupRefusal (machineOf F) (F .map) (F .cr3s) (D.begun F)) 0 && eqb (length (F .words)) (512 * F .sizes .frames)) _ (both _ _ ok .0) .0 in
-        let b = both (eqb (setupRefusal (machineOf F) (F .map) (F .cr3s) (D.begun F)) 0) (eqb (length (F .words)) (512 * F .sizes .frames)) a in
-        record { setup = eqb-true _ 0 (b .0); words = eqb-true _ _ (b .1) }
+    passed =
+        let (three, events) = both (setup? && words? && all (F .sizes .processors) starts?) (all (length (n .events)) event?) ok in
+        let (two, starts) = both (setup? && words?) (all (F .sizes .processors) starts?) three in
+        let (setup, words) = both setup? words? two in
+        (setup, words, starts, events)
+
+    pub known-sized : D.Sized F
+    known-sized = record { setup = eqb-true _ 0 (passed .0); words = eqb-true _ _ (passed .1) }
 
     pub known-fits : Fit (guestOf F) (runOf n .events)
-    unfolding fits?
-    known-fits =
-        let a = both (eqb (setupRefusal (machineOf F) (F .map) (F .cr3s) (D.begun F)) 0 && eqb (length (F .words)) (512 * F .sizes .frames) && all (F .sizes .processors) (λ p. ltb (getD (F .cr3s) p 0) (F .sizes .frames)))
-        (all (length (n .events)) (λ k. eqb (eventRefusal (guestOf F) (eventAt (n .events) k)) 0)) ok in
-        record {
-          starts = λ p h. ltb-true _ _ (all-at (λ p. ltb (getD (F .cr3s) p 0) (F .sizes .frames)) (F .sizes .processors) (both (eqb (setupRefusal (machineOf F) (F .map) (F .cr3s) (D.begun F)) 0 && eqb (length (F .words)) (512 * F .sizes .frames)) _ (a .0) .1) p h);
-          events = λ k h. eqb-true _ 0 (all-at (λ k. eqb (eventRefusal (guestOf F) (eventAt (n .events) k)) 0) (length (n .events)) (a .1) k h);
-        }
+    known-fits = record {
+      starts = λ p h. ltb-true _ _ (all-at starts? (F .sizes .processors) (passed .2) p h);
+      events = λ k h. eqb-true _ 0 (all-at event? (length (n .events)) (passed .3) k h);
+    }
 
     quick-state : (k : ℕ) → k ≤ length (n .events) → stateAt F (runOf n) k ≡ quickAt n k
     unfolding stateAt quickAt

@@ -1,13 +1,13 @@
 pub mod Quick
-pub mod GuestWalks
 pub mod Settles
-pub mod Begun
 pub mod Holds
 pub mod Carries
 pub mod Extended
+pub mod GuestWalks
 pub mod Accessed
 pub mod Carried
 pub mod Losing
+pub mod Begun
 pub mod Runs
 pub mod Sound
 pub mod Between

@@ -1,20 +1,19 @@
 -- Slots may be lost at any moment: each is then empty or as it was, and the invariant stays.
-use mathlib.Core.Path.{_≡_, refl, sym, ap, _∙_}
+use mathlib.Core.Path.{_≡_, refl, _∙_}
 use mathlib.Core.List.{List}
 use mathlib.Core.Bool.{Bool, true, false, cond}
 use mathlib.Core.Logic.{_⊎_, inl, inr}
-use Prim.Native.Nat.{ℕ, zero, suc, _+_, _*_, _≤_, _<_}
+use Prim.Native.Nat.{ℕ, zero, suc, _*_, _≤_, _<_}
 use native.Mathlib.Decide.{ℕ-discrete}
 use native.Mathlib.Omega.{arith}
 use lib.ListN.{length}
 use Rattle.paging.specs.Numbers.{each}
 use Rattle.rules.specs.declared.Event.{Event}
-use Rattle.tables.specs.declared.Sizes.{Sizes}
-use Rattle.tables.specs.State.{Machine, State, machine64, slotCount, emptied}
+use Rattle.tables.specs.State.{State, slotCount, emptied}
 use Rattle.tables.proofs.Counts.{by-cases}
 use Rattle.trees.proofs.Slots.{SameSlot, Empty, Room, same-self, same-on, same-empty, with-length, with-other, emptied-here, Local, each-length, each-other, each-here}
 use Rattle.trees.proofs.SlotRules.{empty-right, same-right}
-use Rattle.promise.specs.Demand.{Losses, losing}
+use Rattle.promise.specs.Demand.{Fresh, machineOf, Losses, losing}
 use Rattle.promise.proofs.Holds.{Holds, same-path, same-slot, no-slot}
 
 -- slot j of q is empty, or as it was
@@ -74,31 +73,31 @@ module _ (lost : Losses) (slots : List ℕ) where
       left-on (upto-left P n e (omega arith) q j hj) (after-left lost n (upto n) (omega (arith, upto-length n)) q j hj)
 
 -- THE INVARIANT STAYS
-pub losing-holds : (z : Sizes) (map start cr3s : List ℕ) (es : List Event) (k : ℕ) (lost : Losses) (s : State) → Holds z map start cr3s es k s → Holds z map start cr3s es k (losing (machine64 z) lost s)
+pub losing-holds : (F : Fresh) (es : List Event) (k : ℕ) (lost : Losses) (s : State) → Holds F es k s → Holds F es k (losing (machineOf F) lost s)
 unfolding losing
-losing-holds z map start cr3s es k lost s h = record {
+losing-holds F es k lost s h = record {
   right = record {
     law = record {
       trees = h .right .law .trees;
       slots = λ q hq j hj.
           by-cases (left q j hj)
-          (λ x. empty-right (machine64 z) (s .shadow .pool) (s′ .slots) q j x)
-          (λ x. same-right x (machine64 z) (s .shadow .pool) ∙ h .right .law .slots q hq j hj);
+          (λ x. empty-right (machineOf F) (s .shadow .pool) (s′ .slots) q j x)
+          (λ x. same-right x (machineOf F) (s .shadow .pool) ∙ h .right .law .slots q hq j hj);
     };
-    triples = upto-length lost (s .slots) (z .processors) ∙ h .right .triples;
+    triples = upto-length lost (s .slots) (F .sizes .processors) ∙ h .right .triples;
   };
   size = h .size;
   words = h .words;
   roots = h .roots;
-  paths = λ q hq v hv. same-path z map start cr3s es s′ (refl, refl) (h .paths q hq v hv);
+  paths = λ q hq v hv. same-path F es s′ (refl, refl) (h .paths q hq v hv);
   slots = λ q hq j hj.
       by-cases (left q j hj)
-      (λ x. no-slot z map start cr3s es (λ m. omega (arith, x .mark)))
-      (λ x. same-slot z map start cr3s es s′ x (h .slots q hq j hj));
+      (λ x. no-slot F es (λ m. omega (arith, x .mark)))
+      (λ x. same-slot F es s′ x (h .slots q hq j hj));
 }
   where
     s′ : State
-    s′ = losing (machine64 z) lost s
+    s′ = losing (machineOf F) lost s
 
     left : (q j : ℕ) → j < slotCount → Left (s .slots) (s′ .slots) q j
-    left q j hj = upto-left lost (s .slots) (z .processors) (z .processors) (h .right .triples) (omega arith) q j hj
+    left q j hj = upto-left lost (s .slots) (F .sizes .processors) (F .sizes .processors) (h .right .triples) (omega arith) q j hj

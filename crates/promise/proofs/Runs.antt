@@ -1,19 +1,14 @@
 -- From a fresh machine: the invariant holds at every moment of a run, and every event that fits is taken.
-use mathlib.Core.Path.{_≡_, refl, sym, ap, _∙_}
-use mathlib.Core.List.{List}
-use mathlib.Core.Bool.{Bool, true, false, _&&_}
-use Prim.Native.Nat.{ℕ, zero, suc, _+_, _*_, _^_, _≤_, _<_}
+use mathlib.Core.Path.{_≡_, sym, _∙_}
+use mathlib.Core.Bool.{Bool, true, _&&_}
+use Prim.Native.Nat.{ℕ, zero, suc, _≤_, _<_}
 use native.Mathlib.Omega.{arith}
 use lib.Dec.{eqb}
-use lib.ListN.{length, getD}
-use Rattle.paging.specs.Layout.{frameWords}
-use Rattle.rules.specs.declared.Event.{Event}
-use Rattle.rules.specs.History.{Fit, eventAt, eventRefusal, wordsAt, cr3At}
+use lib.ListN.{length}
+use Rattle.rules.specs.History.{Fit, eventAt, wordsAt, cr3At}
 use Rattle.tables.specs.declared.Sizes.{Sizes}
-use Rattle.tables.specs.State.{Machine, State, machine64, slotCount, markOf, nextEntry, pathTo, Sized}
-use Rattle.shadow.specs.declared.Answer.{Answer}
-use Rattle.shadow.specs.declared.Answer.the-variants.{Refused}
-use Rattle.shadow.specs.After.{Result, rangesFit, lengthsFit, framesFit, callRefusal, after, afterInvlpg, afterCr3, afterBegin, afterLoss}
+use Rattle.tables.specs.State.{Machine, State, Sized}
+use Rattle.shadow.specs.After.{rangesFit, lengthsFit, framesFit, callRefusal}
 use Rattle.paging.proofs.Tests.{both}
 use Rattle.shadow.proofs.Sizing.{Ranged, ranged}
 use Rattle.shadow.proofs.Starting.{accepted-sizes, setup-exact, setup-sized}
@@ -25,7 +20,7 @@ use Rattle.keeps.proofs.Right.{Mapped, Right}
 use Rattle.keeps.proofs.Events.{mapped}
 use Rattle.keeps.proofs.Accepts.{same-tests, accepts}
 use Rattle.promise.specs.Demand as D
-use Rattle.promise.specs.Demand.{Fresh, Run, machineOf, guestOf, stateAt, before, losing}
+use Rattle.promise.specs.Demand.{Fresh, Run, machineOf, guestOf, stateAt, before}
 use Rattle.promise.proofs.Begun.{begun-entries, begun-frame, begun-slots, begun-triples, begun-trees}
 use Rattle.promise.proofs.Holds.{Holds, no-path, no-slot}
 use Rattle.promise.proofs.Carried.{carried}
@@ -35,34 +30,40 @@ module _ (F : Fresh) (fresh : D.Sized F) where
   abbrev z : Sizes
   z = F .sizes
 
-  shown : ((rangesFit (machine64 z) && lengthsFit (machine64 z) (F .map) (D.begun F .shadow) (D.begun F .slots) && eqb (length (F .cr3s)) (z .processors)) ≡ true)
-      × (framesFit (machine64 z) (F .map) ≡ true)
+  abbrev M : Machine
+  M = machineOf F
+
+  abbrev lengths? : Bool
+  lengths? = lengthsFit M (F .map) (D.begun F .shadow) (D.begun F .slots)
+
+  abbrev cr3s? : Bool
+  cr3s? = eqb (length (F .cr3s)) (z .processors)
+
+  shown : ((rangesFit M && lengths? && cr3s?) ≡ true) × (framesFit M (F .map) ≡ true)
   shown = accepted-sizes z (F .map) (F .cr3s) (D.begun F) (fresh .setup)
 
   pub sized : Sized z
   sized = setup-sized z (F .map) (F .cr3s) (D.begun F) (shown .0) (shown .1)
 
   pub ranges : Ranged z
-  ranges =
-      let h = both (rangesFit (machine64 z) && lengthsFit (machine64 z) (F .map) (D.begun F .shadow) (D.begun F .slots)) (eqb (length (F .cr3s)) (z .processors)) (shown .0) in
-      ranged z (both (rangesFit (machine64 z)) (lengthsFit (machine64 z) (F .map) (D.begun F .shadow) (D.begun F .slots)) (h .0) .0)
+  ranges = ranged z (both (rangesFit M) lengths? (both (rangesFit M && lengths?) cr3s? (shown .0) .0) .0)
 
   pub fits : Mapped z (F .map)
   fits = mapped z (F .map) (setup-exact z (F .map) (F .cr3s) (D.begun F) (shown .0) (shown .1) .guests) (shown .1)
 
   module _ (r : Run) (fit : Fit (guestOf F) (r .events)) where
     abbrev At : ℕ → State → Type 0
-    At k s = Holds z (F .map) (F .words) (F .cr3s) (r .events) k s
+    At k s = Holds F (r .events) k s
 
     start-right : Right z (F .map) (D.begun F)
     start-right = record {
       law = record {
-        trees = begun-trees (machine64 z) (able64 z sized) (F .cr3s) (F .words) (F .map) (fit .starts);
+        trees = begun-trees M (able64 z sized) (F .cr3s) (F .words) (F .map) (fit .starts);
         slots = λ p hp j hj.
-            let e = begun-slots (machine64 z) (able64 z sized) (F .cr3s) (F .words) p j in
-            empty-right (machine64 z) (D.begun F .shadow .pool) (D.begun F .slots) p j (record { mark = e .0; page = e .1; third = omega (arith, e .2, e .3) });
+            let e = begun-slots M (able64 z sized) (F .cr3s) (F .words) p j in
+            empty-right M (D.begun F .shadow .pool) (D.begun F .slots) p j (record { mark = e .0; page = e .1; third = omega (arith, e .2, e .3) });
       };
-      triples = begun-triples (machine64 z) (able64 z sized) (F .cr3s) (F .words);
+      triples = begun-triples M (able64 z sized) (F .cr3s) (F .words);
     }
 
     begins : At 0 (D.begun F)
@@ -71,19 +72,19 @@ module _ (F : Fresh) (fresh : D.Sized F) where
       right = start-right;
       size = fresh .words;
       words = same-refl (F .words);
-      roots = λ p hp. begun-frame (machine64 z) (able64 z sized) (F .cr3s) (F .words) p hp;
-      paths = λ p hp v hv. no-path z (F .map) (F .words) (F .cr3s) (r .events) (zero-absent _ (begun-entries (machine64 z) (able64 z sized) (F .cr3s) (F .words) _ _));
-      slots = λ p hp j hj. no-slot z (F .map) (F .words) (F .cr3s) (r .events) (λ m. omega (arith, begun-slots (machine64 z) (able64 z sized) (F .cr3s) (F .words) p j .0));
+      roots = λ p hp. begun-frame M (able64 z sized) (F .cr3s) (F .words) p hp;
+      paths = λ p hp v hv. no-path F (r .events) (zero-absent _ (begun-entries M (able64 z sized) (F .cr3s) (F .words) _ _));
+      slots = λ p hp j hj. no-slot F (r .events) (λ m. omega (arith, begun-slots M (able64 z sized) (F .cr3s) (F .words) p j .0));
     }
 
     -- an event of the run, in a state that the invariant holds of
-    taken : (k : ℕ) → k < length (r .events) → (s : State) → At k s → callRefusal (machine64 z) (F .map) s (eventAt (r .events) k) ≡ 0
+    taken : (k : ℕ) → k < length (r .events) → (s : State) → At k s → callRefusal M (F .map) s (eventAt (r .events) k) ≡ 0
     taken k hk s h =
         accepts z (F .map) s ranges sized fits (shown .1) (h .right) (h .size) (eventAt (r .events) k)
         (sym (same-tests z s (F .words) (F .cr3s) (eventAt (r .events) k)) ∙ fit .events k hk)
 
     lost : (k : ℕ) → At k (stateAt F r k) → At k (before F r k)
-    lost k h = losing-holds z (F .map) (F .words) (F .cr3s) (r .events) k (r .lost k) (stateAt F r k) h
+    lost k h = losing-holds F (r .events) k (r .lost k) (stateAt F r k) h
 
     -- THE INVARIANT HOLDS AT EVERY MOMENT
     pub holds : (k : ℕ) → k ≤ length (r .events) → At k (stateAt F r k)
@@ -91,11 +92,11 @@ module _ (F : Fresh) (fresh : D.Sized F) where
     holds zero hk = begins
     holds (suc k) hk =
         let h = lost k (holds k (omega arith)) in
-        carried z (F .map) (F .words) (F .cr3s) (r .events) k (before F r k) h (taken k (omega arith) (before F r k) h)
+        carried F (r .events) k (before F r k) h (taken k (omega arith) (before F r k) h)
 
     pub holds-before : (k : ℕ) → k ≤ length (r .events) → At k (before F r k)
     holds-before k hk = lost k (holds k hk)
 
     -- AND EVERY EVENT IS TAKEN
-    pub accepted : (k : ℕ) → k < length (r .events) → callRefusal (machine64 z) (F .map) (before F r k) (eventAt (r .events) k) ≡ 0
+    pub accepted : (k : ℕ) → k < length (r .events) → callRefusal M (F .map) (before F r k) (eventAt (r .events) k) ≡ 0
     accepted k hk = taken k hk (before F r k) (holds-before k (omega arith))

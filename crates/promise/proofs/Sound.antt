@@ -1,43 +1,41 @@
 -- An access that is not to be put again answers what stands in the list.
-use mathlib.Core.Path.{_≡_, refl, sym, ap, subst, _∙_}
-use mathlib.Core.List.{List}
-use mathlib.Core.Bool.{Bool, true, false, _&&_}
+use mathlib.Core.Path.{_≡_, sym, ap, subst, _∙_}
+use mathlib.Core.Bool.{true, _&&_}
 use mathlib.Core.Logic.{_⊎_, inl, inr}
-use Prim.Native.Nat.{ℕ, zero, suc, _+_, _*_, _^_, _≤_, _<_}
+use Prim.Native.Nat.{ℕ, _+_, _<_}
 use native.Mathlib.Omega.{arith}
-use lib.Dec.{eqb, T}
-use lib.ListN.{length, getD}
+use lib.Dec.{eqb}
+use lib.ListN.{length}
 use borrow.Author.Tests.{eqb-true}
 use Rattle.paging.specs.declared.Guest.{Guest}
-use Rattle.paging.specs.declared.Walk.{Walk}
 use Rattle.paging.specs.declared.Request.{Request}
 use Rattle.paging.specs.Frame.{guest, host, hostOf}
-use Rattle.paging.specs.Layout.{tables64, pageOf, frameOf}
+use Rattle.paging.specs.Layout.{tables64, pageOf}
 use Rattle.paging.specs.Request.{requestOf, enough}
 use Rattle.paging.proofs.Layouts.{tables64-sound}
 use Rattle.paging.proofs.Rights.{request-small}
 use Rattle.rules.specs.declared.Event.{Event}
 use Rattle.rules.specs.declared.Outcome.{Outcome}
-use Rattle.rules.specs.declared.Outcome.the-variants.{Address as address, Fault as fault}
 use Rattle.rules.specs.History.{Fit, eventAt}
+use Rattle.rules.specs.View.{View}
 use Rattle.rules.specs.Outcome.{Permitted}
+use Rattle.rules.proofs.Lawful.{Lawful}
 use Rattle.rules.proofs.Theorems.{a-list}
 use Rattle.tables.specs.declared.Sizes.{Sizes}
 use Rattle.tables.specs.declared.Walked.{Walked}
-use Rattle.tables.specs.declared.Walked.the-variants.{Whole, Fault}
-use Rattle.tables.specs.State.{Machine, State, machine64, slotCount, markOf, pageIn, placeIn, rightsIn}
+use Rattle.tables.specs.declared.Walked.the-variants.{Fault}
+use Rattle.tables.specs.State.{State, machine64, slotCount, markOf, pageIn, placeIn, rightsIn}
 use Rattle.tables.specs.Steps.{slotServes}
-use Rattle.shadow.specs.declared.Answer.{Answer}
 use Rattle.shadow.specs.declared.Answer.the-variants.{Again, Address, Fault as Faulted}
 use Rattle.shadow.specs.After.{Result, valueAt, after}
 use Rattle.paging.proofs.Tests.{both}
 use Rattle.shadow.proofs.Accepted.{accepted-own}
 use Rattle.trees.proofs.SlotRules.{right-complete}
 use Rattle.keeps.proofs.Moves.{page-small}
-use Rattle.keeps.proofs.Accesses.{walked, Way, slot, shadow, fault as faulted, lacks, again, ways}
+use Rattle.keeps.proofs.Accesses.{Way, slot, shadow, fault as faulted, lacks, again, ways}
 use Rattle.keeps.proofs.Events.{Kind, store, invlpg, cr3, access, begin, extend, loss, kinds}
 use Rattle.promise.specs.Demand as D
-use Rattle.promise.specs.Demand.{Fresh, Run, guestOf, before, answerAt, questionAt, Says, place, code, Settles}
+use Rattle.promise.specs.Demand.{Fresh, Run, guestOf, does, before, answerAt, questionAt, Says, place, code, Settles}
 use Rattle.promise.proofs.Settles.{Backed, address-permitted, absent-permitted, beyond-permitted, lacking-permitted}
 use Rattle.promise.proofs.GuestWalks.{Ends, whole, absent, beyond}
 use Rattle.promise.proofs.Holds.{seen, Holds}
@@ -63,24 +61,34 @@ module _ (F : Fresh) (fresh : D.Sized F) (r : Run) (fit : Fit (guestOf F) (r .ev
   abbrev s : State
   s = before F r k
 
-  h : Holds z (F .map) (F .words) (F .cr3s) (r .events) k s
+  h : Holds F (r .events) k s
   h = holds-before F fresh r fit k (omega arith)
 
   hp : p < z .processors
   hp = accepted-own z (F .map) s e (accepted F fresh r fit k hk)
 
+  -- what p sees of this page
+  abbrev view : View
+  view = seen F (r .events) p v
+
+  abbrev lawful : Lawful view 4 (z .frames)
+  lawful = law F (r .events) k s h p hp (e .a) (e .b)
+
+  answer-of : {out : Result} → does F r k s ≡ out → answerAt F r k ≡ out .answer
+  answer-of o = ap (λ (y : Result). y .answer) o
+
   -- what is permitted stands in the list
-  stands : {o : Outcome} → Says F r (e .a) (answerAt F r k) o → Permitted (seen z (F .map) (F .words) (F .cr3s) (r .events) p v) q k o → Settles F r k
+  stands : {o : Outcome} → Says F r (e .a) (answerAt F r k) o → Permitted view q k o → Settles F r k
   stands {o} says permitted =
       let l = a-list (guestOf F) (r .events) (questionAt F r k) tables64-sound k in
       record { outcome = o; says = says; list = l .0; right = l .1; stands = l .1 .exact o .1 permitted }
 
   -- an address, from a held walk behind it
-  answered : (g : Guest) (rights : ℕ) → g .0 < z .frames → Backed (seen z (F .map) (F .words) (F .cr3s) (r .events) p v) k g rights → q .needs < 8 → enough q rights ≡ true
+  answered : (g : Guest) (rights : ℕ) → g .0 < z .frames → Backed view k g rights → q .needs < 8 → enough q rights ≡ true
       → answerAt F r k ≡ Address (valueAt (hostOf (F .map) g) (e .a)) → Settles F r k
   answered g rights inside b small good o =
       stands (rw o (place inside))
-      (address-permitted (seen z (F .map) (F .words) (F .cr3s) (r .events) p v) (law z (F .map) (F .words) (F .cr3s) (r .events) k s h p hp (e .a) (e .b)) q k g rights small b good)
+      (address-permitted view lawful q k g rights small b good)
 
   -- a slot's three tests
   slot-tests : (j : ℕ) → slotServes (s .slots) p v q j ≡ true → (markOf (s .slots) p j ≡ 1) × (pageIn (s .slots) p j ≡ v) × (enough q (rightsIn (s .slots) p j) ≡ true)
@@ -95,32 +103,31 @@ module _ (F : Fresh) (fresh : D.Sized F) (r : Run) (fit : Fit (guestOf F) (r .ev
       let (mark, page, good) = slot-tests j t in
       answered (guest (placeIn (s .slots) p j)) (rightsIn (s .slots) p j)
       (right-complete (machine64 z) (s .shadow .pool) (s .slots) p j (h .right .law .slots p hp j hj) mark)
-      (subst (λ (u : ℕ). Backed (seen z (F .map) (F .words) (F .cr3s) (r .events) p u) k (guest (placeIn (s .slots) p j)) (rightsIn (s .slots) p j)) page (h .slots p hp j hj .complete mark))
+      (subst (λ (u : ℕ). Backed (seen F (r .events) p u) k (guest (placeIn (s .slots) p j)) (rightsIn (s .slots) p j)) page (h .slots p hp j hj .complete mark))
       small good o
 
   -- a fault of the guest's walk
-  by-fault : {x : Walked} → Ends (seen z (F .map) (F .words) (F .cr3s) (r .events) p v) (z .frames) v k (rules z (F .map) (F .words) (F .cr3s) (r .events) k s h p hp (e .a) (e .b))
-      (law z (F .map) (F .words) (F .cr3s) (r .events) k s h p hp (e .a) (e .b)) (reads z (F .map) (F .words) (F .cr3s) (r .events) k s h p hp (e .a) (e .b)) x
+  by-fault : {x : Walked} → Ends view (z .frames) v k (rules F (r .events) k s h p hp (e .a) (e .b)) lawful (reads F (r .events) k s h p hp (e .a) (e .b)) x
       → (base : ℕ) → x ≡ Fault base → answerAt F r k ≡ Faulted (base + q .adds) → Settles F r k
   by-fault (whole held done) base x o = let n : _≡_ {A = ℕ} 0 1 = cc in absurd (omega arith)
   by-fault (absent {w = w} {c = c} none held gone) base x o =
       let y : base ≡ 0 = (let d : base ≡ c = cc in d ∙ none) in
-      stands (rw o (rw y code)) (absent-permitted (seen z (F .map) (F .words) (F .cr3s) (r .events) p v) (law z (F .map) (F .words) (F .cr3s) (r .events) k s h p hp (e .a) (e .b)) q k w held gone)
+      stands (rw o (rw y code)) (absent-permitted view lawful q k w held gone)
   by-fault (beyond {w = w} {c = c} nine held gone) base x o =
       let y : base ≡ 9 = (let d : base ≡ c = cc in d ∙ nine) in
-      stands (rw o (rw y code)) (beyond-permitted (seen z (F .map) (F .words) (F .cr3s) (r .events) p v) (law z (F .map) (F .words) (F .cr3s) (r .events) k s h p hp (e .a) (e .b)) q k w held gone)
+      stands (rw o (rw y code)) (beyond-permitted view lawful q k w held gone)
 
   way : q .needs < 8 → Way z (F .map) p (e .a) (e .b) s (after (machine64 z) (F .map) s e) → (answerAt F r k ≡ Again) ⊎ Settles F r k
-  way small (again last w x good o) = inl (ap (λ (y : Result). y .answer) o)
-  way small (slot j hj t o) = inr (by-slot small j hj t (ap (λ (y : Result). y .answer) o))
+  way small (again last w x good o) = inl (answer-of o)
+  way small (slot j hj t o) = inr (by-slot small j hj t (answer-of o))
   way small (shadow here good o) =
       let b = h .paths p hp v (page-small (e .a)) .full here in
-      inr (answered (b .frame) _ (b .inside) (b .backed) small good (ap (λ (y : Result). y .answer) o ∙ ap (λ (f : ℕ). Address (valueAt (host f) (e .a))) (b .mapped)))
-  way small (faulted base x o) = inr (by-fault (walk-ends z (F .map) (F .words) (F .cr3s) (r .events) k s h p hp (e .a) (e .b)) base x (ap (λ (y : Result). y .answer) o))
+      inr (answered (b .frame) _ (b .inside) (b .backed) small good (answer-of o ∙ ap (λ (f : ℕ). Address (valueAt (host f) (e .a))) (b .mapped)))
+  way small (faulted base x o) = inr (by-fault (walk-ends F (r .events) k s h p hp (e .a) (e .b)) base x (answer-of o))
   way small (lacks last w x bad o) =
-      let held = walk-held z (F .map) (F .words) (F .cr3s) (r .events) k s h p hp (e .a) (e .b) last w x in
-      inr (stands (rw (ap (λ (y : Result). y .answer) o) code)
-      (lacking-permitted (seen z (F .map) (F .words) (F .cr3s) (r .events) p v) (law z (F .map) (F .words) (F .cr3s) (r .events) k s h p hp (e .a) (e .b)) q k w (held .0) (held .1) bad))
+      let held = walk-held F (r .events) k s h p hp (e .a) (e .b) last w x in
+      inr (stands (rw (answer-of o) code)
+      (lacking-permitted view lawful q k w (held .0) (held .1) bad))
 
   -- SOUND
   pub sound : e .kind ≡ 4 → (answerAt F r k ≡ Again) ⊎ Settles F r k

@@ -1,30 +1,24 @@
 -- DEMAND 3, proved: every event that fits is taken, and an access put at most twice ends in what stands in the list.
 use mathlib.Core.Path.{_≡_, refl, sym, ap, subst, _∙_}
-use mathlib.Core.List.{List}
-use mathlib.Core.Bool.{Bool, true}
-use mathlib.Core.Logic.{_⊎_, inl, inr}
+use mathlib.Core.Logic.{inl, inr}
 use Prim.Native.Nat.{ℕ, zero, suc, _≤_, _<_}
-use native.Mathlib.Nat.{eq-or-lt-of-le}
 use native.Mathlib.Decide.{ℕ-discrete}
 use native.Mathlib.Omega.{arith}
-use lib.Dec.{T, eqb, eqb→eq}
+use lib.Dec.{T, eqb→eq}
 use lib.ListN.{length}
-use Rattle.paging.specs.declared.Request.{Request}
 use Rattle.paging.specs.Layout.{tables64, pageOf}
 use Rattle.paging.specs.Request.{requestOf}
 use Rattle.rules.specs.declared.Event.{Event}
-use Rattle.rules.specs.History.{Fit, isAccess, eventAt}
-use Rattle.tables.specs.declared.Sizes.{Sizes}
+use Rattle.rules.specs.History.{Fit, eventAt}
 use Rattle.tables.specs.State.{State, machine64}
 use Rattle.tables.proofs.Counts.{by-cases}
-use Rattle.shadow.specs.declared.Answer.{Answer}
-use Rattle.shadow.specs.declared.Answer.the-variants.{Address, Again, Refused}
+use Rattle.shadow.specs.declared.Answer.the-variants.{Address, Again}
 use Rattle.shadow.specs.After.{after}
 use Rattle.shadow.proofs.Accepted.{accepted-own}
 use Rattle.keeps.proofs.Again.{Serves}
 use Rattle.keeps.proofs.Theorems.{again-serves, served-address, never-refused}
 use Rattle.promise.specs.Demand as D
-use Rattle.promise.specs.Demand.{Fresh, Run, guestOf, stateAt, before, answerAt, Settles, mayStandBetween, SettlesInTwo, Accepts, Demand, losing}
+use Rattle.promise.specs.Demand.{Fresh, Run, guestOf, stateAt, before, answerAt, Settles, mayStandBetween, Accepts, Demand, losing}
 use Rattle.promise.proofs.Runs.{accepted}
 use Rattle.promise.proofs.Sound.{sound}
 use Rattle.promise.proofs.Between.{serves-by, serves-still}

@@ -7,20 +7,14 @@ use Prim.Native.Nat.{ℕ, suc, _<_}
 use native.Mathlib.Decide.{ℕ-discrete}
 use native.Mathlib.Omega.{arith}
 use lib.Dec.{eqb}
-use borrow.Author.Tests.{ne-eqb, ltb-true}
-use Rattle.paging.proofs.Tests.{and-r, T-true, true-T}
+use borrow.Author.Tests.{ne-eqb}
 use Rattle.tables.specs.State.{Machine, Shadow, tableCount, ownerOf, entryCount, named}
 use Rattle.tables.specs.Steps.{cut}
-use Rattle.lawful.specs.Rules.{isMadeWith, isLeaf, isBranch, isRoot}
+use Rattle.lawful.specs.Rules.{isLeaf, isRoot}
 use Rattle.trees.proofs.Trees.{Able, Outside, ent, lev, shd, Names, Branch, Trees, Less, Same}
-use Rattle.trees.proofs.Entries.{zero-names-none}
+use Rattle.trees.proofs.Entries.{zero-names-none, names-by, branch-names}
 use Rattle.trees.proofs.Falls.{live}
 use Rattle.trees.proofs.Prunes.{Below, Cleared, Zeroed, Pruned, Onward, still, cut-onward, frees}
-
--- a branch names a table
-pub branch-names : (M : Machine) (e : ℕ) → isBranch M e ≡ true → named M e < tableCount M
-unfolding isBranch
-branch-names M e q = ltb-true (named M e) (tableCount M) (T-true _ (and-r (isMadeWith (M .tables) 0 e) _ (true-T _ q)))
 
 module _ (M : Machine) (ok : Able M) (map : List ℕ) (outside : Outside M map) (s : Shadow) (trees : Trees M map s) (t i l : ℕ)
     (ht : t < tableCount M) (hi : i < entryCount M) (level : lev M s t ≡ suc l) (pos : 0 < l) where
@@ -175,7 +169,7 @@ module _ (M : Machine) (ok : Able M) (map : List ℕ) (outside : Outside M map) 
       stays : {v k : ℕ} → Names M s v k u → Names M s′ v k u
       stays {v} {k} m =
           by-entry v (m .table) k (m .index)
-          (λ e. record { table = m .table; index = m .index; names = ap (named M) e ∙ m .names; is = m .is })
+          (λ e. names-by e m)
           (λ d. absurd (omega (arith, d .under u m)))
 
   -- CUTTING AN ENTRY KEEPS THE TREES

@@ -1,33 +1,26 @@
--- What one store into an entry or a record does to all of them, and what an entry names.
+-- The 64-bit machine is able; what one store into an entry or a record does to all of them; and what an entry names.
 use mathlib.Core.Path.{_≡_, refl, sym, ap, _∙_}
-use mathlib.Core.Bool.{Bool, true, false, cond, _&&_}
-use mathlib.Core.List.{List, [], _∷_}
-use mathlib.Core.Logic.{_⊎_, inl, inr}
-use Prim.Native.Nat.{ℕ, zero, suc, _+_, _-_, _*_, _/_, _%_, _^_, _≤_, _<_}
-use native.Mathlib.Decide.{ℕ-discrete}
+use mathlib.Core.Bool.{true}
+use Prim.Native.Nat.{ℕ, _+_, _-_, _*_, _^_, _<_}
 use native.Mathlib.Omega.{arith}
-use lib.Dec.{eqb, ltb, leb}
-use lib.ListN.{length, getD, set, length-set}
-use lib.Pow.{pow-pos}
+use lib.ListN.{set, length-set, List·getD-eq-default}
+use lib.Dec.{ltb}
 use lib.Seq.{getD-set-same, getD-set-other}
-use borrow.Author.Tests.{lt-ltb, le-leb}
+use borrow.Author.Tests.{ltb-true}
 use Rattle.paging.specs.declared.Guest.{Guest}
-use Rattle.paging.specs.Layout.{frameWords, tables64, bit, get, put, frameOf, rightsOf, compose, isPresent}
+use Rattle.paging.specs.Layout.{frameWords, bit, get, frameOf, rightsOf, compose, isPresent}
 use Rattle.paging.proofs.Layouts.{tables64-sound, length-put, get-put, get-put-other, composed-present, composed-rights}
+use Rattle.paging.proofs.Tests.{both}
 use Rattle.tables.specs.declared.Sizes.{Sizes}
-use Rattle.tables.specs.State.{Machine, Shadow, shadowOf, onPool, onRecords, machine64, levelOf, shadows, withRecord, tableCount, entryCount, entryOf, withEntry, named, Sized}
+use Rattle.tables.specs.State.{Machine, Shadow, onPool, onRecords, machine64, withRecord, tableCount, entryCount, withEntry, named, Sized}
 use Rattle.tables.proofs.Names.{named-absent, named-on}
-use Rattle.trees.proofs.Trees.{Able, Exact, ent, lev, shd}
+use Rattle.lawful.specs.Rules.{isMadeWith, isBranch}
+use Rattle.trees.proofs.Trees.{Able, Exact, ent, lev, shd, Names}
 
 -- ---- the 64-bit machine is able
 
 small : (a b d f x : ℕ) → a < 2 → b < 2 → d < 2 → f < 2 ^ 40 → x < 2 → 1 + 2 * a + 4 * b + 32 + 64 * d + 2 ^ 12 * f + x * 2 ^ 63 < 2 ^ 64
 small a b d f x ha hb hd hf hx = omega arith
-
-past-end : (xs : List ℕ) (k : ℕ) → length xs ≤ k → getD xs k 0 ≡ 0
-past-end [] k h = refl
-past-end (x ∷ xs) zero h = absurd (omega arith)
-past-end (x ∷ xs) (suc k) h = past-end xs k (omega arith)
 
 pub able64 : (z : Sizes) → Sized z → Able (machine64 z)
 unfolding compose get
@@ -38,7 +31,7 @@ able64 z ok = record {
   room = ok .pool;
   fits = λ r d f hr hd hf. small (bit r 0) (bit r 1) d f (1 - bit r 2) (omega arith) (omega arith) hd hf (omega arith);
   grants = λ e q. absurd (omega (arith, q));
-  past = λ pool e t i h. past-end pool (frameWords * t + i) (omega arith);
+  past = λ pool e t i h. List·getD-eq-default pool 0 {n = frameWords * t + i} (omega arith);
 }
 
 -- ---- stores
@@ -89,6 +82,10 @@ module _ (M : Machine) (ok : Able M) (s : Shadow) (exact : Exact M s) where
 
 -- ---- names
 
+-- a name where the entry is the same
+pub names-by : {M : Machine} {s x : Shadow} {v k u : ℕ} → ent M x v k ≡ ent M s v k → Names M s v k u → Names M x v k u
+names-by {M} same m = record { table = m .table; index = m .index; names = ap (named M) same ∙ m .names; is = m .is }
+
 module _ (M : Machine) where
   -- an absent entry names none
   pub zero-names : named M 0 ≡ tableCount M
@@ -96,6 +93,11 @@ module _ (M : Machine) where
 
   pub zero-names-none : (e : ℕ) → e ≡ 0 → named M e < tableCount M → ⊥
   zero-names-none e q h = let r : named M e ≡ tableCount M = ap (named M) q ∙ zero-names in omega arith
+
+  -- a branch names a table
+  pub branch-names : (e : ℕ) → isBranch M e ≡ true → named M e < tableCount M
+  unfolding isBranch
+  branch-names e q = ltb-true (named M e) (tableCount M) (both (isMadeWith (M .tables) 0 e) (ltb (named M e) (tableCount M)) q .1)
 
   module _ (ok : Able M) (r u : ℕ) (hr : r < 8) (hu : u < tableCount M) where
     within : M .base + u < 2 ^ M .tables .frameBits

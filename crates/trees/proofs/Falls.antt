@@ -1,25 +1,24 @@
--- Who is named is live, of the same share and one level lower; and every table lies below the root of its share.
-use mathlib.Core.Path.{_≡_, refl, sym, ap, subst, _∙_}
+-- A level 1 entry names no table; who is named is live, of its namer's share and one level lower.
+use mathlib.Core.Path.{_≡_, refl, sym, ap, _∙_}
 use mathlib.Core.Bool.{Bool, true, false, cond}
 use mathlib.Core.List.{List, [], _∷_}
-use mathlib.Core.Logic.{_⊎_, inl, inr, ⊎-elim}
-use Prim.Native.Nat.{ℕ, zero, suc, _+_, _-_, _*_, _≤_, _<_}
-use native.Mathlib.Nat.{eq-or-lt-of-le}
+use mathlib.Core.Logic.{_⊎_, inl, inr}
+use Prim.Native.Nat.{ℕ, suc, _+_, _<_}
 use native.Mathlib.Decide.{decLt}
 use native.Mathlib.Omega.{arith}
-use lib.Dec.{eqb, ltb, leb}
+use lib.Dec.{eqb}
 use lib.ListN.{length, getD}
 use borrow.Author.Tests.{eqb-true}
 use Rattle.paging.specs.declared.Host.{Host}
-use Rattle.paging.specs.declared.Origin.{Origin}
-use Rattle.paging.specs.declared.Origin.the-variants.{Of, Nowhere}
-use Rattle.paging.specs.Frame.{guest, host, originFrom, originOf}
+use Rattle.paging.specs.declared.Origin.the-variants.{Of}
+use Rattle.paging.specs.Frame.{guest, host, originFrom}
 use Rattle.paging.specs.Layout.{bit, frameOf, isPresent}
 use Rattle.paging.proofs.Tests.{both}
-use Rattle.tables.specs.State.{Machine, Shadow, tableCount, ownerOf, entryCount, named}
+use Rattle.tables.specs.State.{Machine, Shadow, tableCount, ownerOf, named}
 use Rattle.tables.proofs.Names.{named-absent, named-low, named-past}
 use Rattle.lawful.specs.Rules.{isOf, isMapped, isMadeWith, isLeaf}
-use Rattle.trees.proofs.Trees.{Able, Outside, Exact, ent, lev, shd, Names, Branch, Trees}
+use Rattle.trees.proofs.Tests.{zero-one-more}
+use Rattle.trees.proofs.Trees.{Outside, ent, lev, Names, Branch, Trees}
 use Rattle.trees.proofs.Entries.{zero-names-none}
 
 -- a frame that is mapped stands in the map
@@ -62,14 +61,9 @@ module _ (M : Machine) (map : List ℕ) (outside : Outside M map) where
       by false away = none (named-absent M e away)
 
   module _ (s : Shadow) (trees : Trees M map s) where
-    zero-or-more : (n : ℕ) → (n ≡ 0) ⊎ ((n ≡ 1) ⊎ (1 < n))
-    zero-or-more zero = inl refl
-    zero-or-more (suc zero) = inr (inl refl)
-    zero-or-more (suc (suc n)) = inr (inr (omega arith))
-
     -- WHO NAMES A TABLE STANDS ABOVE LEVEL 1, AND IT IS A BRANCH
     pub names-branch : {t i u : ℕ} → Names M s t i u → (1 < lev M s t) × Branch M s t (ent M s t i)
-    names-branch {t} {i} {u} m = go (zero-or-more (lev M s t))
+    names-branch {t} {i} {u} m = go (zero-one-more (lev M s t))
       where
         named-some : named M (ent M s t i) < tableCount M
         named-some = rw (m .names) (m .is)

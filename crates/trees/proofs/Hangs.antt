@@ -14,7 +14,7 @@ use Rattle.tables.specs.State.{Machine, Shadow, onPool, tableCount, ownerOf, en
 use Rattle.tables.specs.Steps.{hang}
 use Rattle.lawful.specs.Rules.{isMadeWith, isLeaf, isBranch, isRoot}
 use Rattle.trees.proofs.Trees.{Able, Outside, Exact, ent, lev, shd, Names, Branch, Trees, Same}
-use Rattle.trees.proofs.Entries.{entry-here, entry-other, entry-exact, level-here, frame-here, level-other, frame-other, record-exact, zero-names-none, made-frame, made-names, made-small, made-rights}
+use Rattle.trees.proofs.Entries.{entry-here, entry-other, entry-exact, level-here, frame-here, level-other, frame-other, record-exact, zero-names-none, made-frame, made-names, made-small, made-rights, names-by}
 use Rattle.trees.proofs.Falls.{live}
 
 -- a table is this one, or it is not
@@ -24,10 +24,6 @@ by-table {A} v u f h = go (ℕ-discrete v u)
     go : Dec (v ≡ u) → A
     go (yes q) = f q
     go (no ne) = h ne
-
--- a name where the entry is the same
-pub names-by : {M : Machine} {s x : Shadow} {v k u : ℕ} → ent M x v k ≡ ent M s v k → Names M s v k u → Names M x v k u
-names-by {M} same m = record { table = m .table; index = m .index; names = ap (named M) same ∙ m .names; is = m .is }
 
 module _ (M : Machine) (ok : Able M) (map : List ℕ) (outside : Outside M map) (s : Shadow) (trees : Trees M map s)
     (t i u l : ℕ) (g : Guest) (r : ℕ) (table : t < tableCount M) (index : i < entryCount M) (level : lev M s t ≡ suc l) (low : 0 < l)

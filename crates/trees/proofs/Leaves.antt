@@ -20,9 +20,8 @@ use Rattle.tables.specs.State.{Machine, Shadow, onPool, tableCount, entryCount,
 use Rattle.tables.specs.Steps.{leafOf}
 use Rattle.lawful.specs.Rules.{isOf, isMadeWith, isLeaf}
 use Rattle.trees.proofs.Trees.{Able, Outside, ent, lev, Names, Branch, Trees, Same}
-use Rattle.trees.proofs.Entries.{entry-here, entry-other, entry-exact, zero-names-none}
+use Rattle.trees.proofs.Entries.{entry-here, entry-other, entry-exact, zero-names-none, names-by}
 use Rattle.trees.proofs.Falls.{leaf-names, names-branch}
-use Rattle.trees.proofs.Hangs.{names-by}
 
 module _ (M : Machine) (ok : Able M) (map : List ℕ) (outside : Outside M map) (s : Shadow) (trees : Trees M map s)
     (t i e : ℕ) (table : t < tableCount M) (level : lev M s t ≡ 1) (index : i < entryCount M) (small : e < 2 ^ M .tables .entryBits)

@@ -1,10 +1,9 @@
+pub mod Tests
+pub mod Counts
 pub mod Trees
-pub mod Roots
 pub mod Entries
 pub mod Falls
-pub mod Paths
-pub mod Unique
-pub mod Counts
+pub mod Roots
 pub mod Asked
 pub mod Rules
 pub mod Prunes
@@ -13,7 +12,9 @@ pub mod Hangs
 pub mod Leaves
 pub mod Empties
 pub mod Shares
-pub mod Fills
-pub mod Tests
+pub mod Paths
+pub mod Unique
+pub mod Settles
+pub mod Builds
 pub mod Slots
 pub mod SlotRules

@@ -5,19 +5,17 @@ use mathlib.Core.Bool.{true}
 use mathlib.Core.List.{List}
 use mathlib.Core.Logic.{_⊎_, inl, inr}
 use Prim.Native.Nat.{ℕ, zero, suc, _+_, _-_, _≤_, _<_}
-use native.Mathlib.Nat.{mul-div-cancel, mul-lt-mul-of-pos-right}
 use native.Mathlib.Decide.{decLt}
 use native.Mathlib.Omega.{arith}
-use lib.Dec.{eqb}
-use borrow.Author.Tests.{eq-eqb, eqb-true}
+use borrow.Author.Tests.{eqb-true}
 use Rattle.paging.specs.Layout.{bit, index, isPresent}
 use Rattle.paging.proofs.Indices.{index-small}
 use Rattle.tables.specs.declared.Path.{Path}
-use Rattle.tables.specs.State.{Machine, Shadow, tableCount, ownerOf, rootOf, entryCount, named, top, nextEntry, down, descend, pathTo}
-use Rattle.lawful.specs.Rules.{isRoot}
+use Rattle.tables.specs.State.{Machine, Shadow, tableCount, ownerOf, entryCount, named, top, nextEntry, down, descend, pathTo}
 use Rattle.trees.proofs.Trees.{Able, Outside, Exact, ent, lev, Names, Trees, Less, Same}
 use Rattle.trees.proofs.Entries.{zero-names}
 use Rattle.trees.proofs.Falls.{falls, same-owner}
+use Rattle.trees.proofs.Roots.{root-owner, root-level}
 
 module _ (M : Machine) (pool : List ℕ) (page : ℕ) where
   -- one more step at the end
@@ -66,18 +64,6 @@ module _ (M : Machine) (ok : Able M) (s : Shadow) (exact : Exact M s) (page : �
 -- ---- a path on a table
 
 module _ (M : Machine) (ok : Able M) (map : List ℕ) (outside : Outside M map) (s : Shadow) (trees : Trees M map s) (p : ℕ) (hp : p < M .processors) where
-  pub root-within : rootOf M p < tableCount M
-  root-within = mul-lt-mul-of-pos-right hp (ok .some)
-
-  pub root-owner : ownerOf M (rootOf M p) ≡ p
-  root-owner = mul-div-cancel p (ok .some)
-
-  pub root-level : lev M s (rootOf M p) ≡ M .tables .levels
-  unfolding isRoot
-  root-level =
-      let is : eqb (rootOf M p) (rootOf M (ownerOf M (rootOf M p))) ≡ true = eq-eqb _ _ (ap (rootOf M) (sym root-owner)) in
-      eqb-true (lev M s (rootOf M p)) (M .tables .levels) (sym (trees .roots (rootOf M p) root-within) ∙ is)
-
   module _ (page : ℕ) where
     abbrev at : ℕ → Path
     at n = descend M (s .pool) page n (top M p)
@@ -107,7 +93,7 @@ module _ (M : Machine) (ok : Able M) (map : List ℕ) (outside : Outside M map) 
     pub stands : (n : ℕ) → n < M .tables .levels → at n .table < tableCount M
         → (lev M s (at n .table) ≡ M .tables .levels - n) × (ownerOf M (at n .table) ≡ p)
     unfolding descend
-    stands zero hn h = (omega (arith, root-level), root-owner)
+    stands zero hn h = (omega (arith, root-level M ok map s trees p hp), root-owner M ok p)
     stands (suc n) hn h =
         let m = step-names n h in
         let r = stands n (omega arith) (m .table) in

@@ -17,7 +17,7 @@ use Rattle.paging.specs.Numbers.{each}
 use Rattle.tables.specs.State.{Machine, Shadow, onPool, onRecords, withRecord, tableCount, ownerOf, entryCount, withEntry, named}
 use Rattle.tables.specs.Steps.{freeTable, cut}
 use Rattle.trees.proofs.Trees.{Able, Outside, Exact, ent, lev, shd, Names, Trees}
-use Rattle.trees.proofs.Entries.{entry-here, entry-other, entry-exact, level-here, frame-here, level-other, frame-other, record-exact, zero-names-none}
+use Rattle.trees.proofs.Entries.{entry-here, entry-other, entry-exact, level-here, frame-here, level-other, frame-other, record-exact, zero-names-none, names-by}
 use Rattle.trees.proofs.Falls.{falls, live, same-owner}
 
 -- what turn i makes of what holds before it, all turns make
@@ -106,7 +106,7 @@ module _ (M : Machine) (s₀ : Shadow) (t₀ i₀ : ℕ) where
     still {s = s} p {v} {k} {w} m = go (p .entries v (m .table) k (m .index))
       where
         go : (ent M s v k ≡ ent M s₀ v k) ⊎ Zeroed s v k → Names M s₀ v k w
-        go (inl e) = record { table = m .table; index = m .index; names = sym (ap (named M) e) ∙ m .names; is = m .is }
+        go (inl e) = names-by (sym e) m
         go (inr d) = absurd (zero-names-none M (ent M s v k) (d .gone) (rw (m .names) (m .is)))
 
     -- ---- one store

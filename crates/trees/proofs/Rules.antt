@@ -5,17 +5,17 @@ use mathlib.Core.List.{List}
 use mathlib.Core.Logic.{_↔_}
 use Prim.Native.Nat.{ℕ, zero, suc, _+_, _<_}
 use native.Mathlib.Omega.{arith}
-use lib.Dec.{eqb, ltb}
-use borrow.Author.Tests.{eq-eqb, ne-eqb, lt-ltb, eqb-true, ltb-true}
+use lib.Dec.{eqb}
+use borrow.Author.Tests.{eq-eqb, ne-eqb, lt-ltb, eqb-true}
 use Rattle.paging.specs.Numbers.{all}
 use Rattle.paging.proofs.Numbers.{all-at}
 use Rattle.paging.proofs.Tests.{both}
 use Rattle.tables.specs.State.{Machine, Shadow, State, slotCount, tableCount, rootOf, entryCount, named}
 use Rattle.tables.proofs.Counts.{by-cases}
-use Rattle.lawful.specs.Rules.{isMadeWith, isBranch, namesOf, recordRight, entryRight, tableRight, entryBy, tableWhole, slotRight, lawful}
+use Rattle.lawful.specs.Rules.{namesOf, recordRight, entryRight, tableRight, entryBy, tableWhole, slotRight, lawful}
 use Rattle.trees.proofs.Trees.{Able, Outside, Exact, ent, lev, Names, Branch, Trees}
 use Rattle.trees.proofs.Roots.{root-table, root-level}
-use Rattle.trees.proofs.Entries.{zero-names-none}
+use Rattle.trees.proofs.Entries.{zero-names-none, branch-names}
 use Rattle.trees.proofs.Falls.{leaf-names}
 use Rattle.trees.proofs.Counts.{all-i, pairs-some, pairs-same, pairs-one}
 use Rattle.trees.proofs.Tests.{or-true, zero-one-more}
@@ -66,10 +66,6 @@ module _ (M : Machine) (ok : Able M) (map : List ℕ) (outside : Outside M map) 
 
     -- ---- whole tables
 
-    pub branch-names : (t e : ℕ) → Branch M s t e → named M e < tableCount M
-    unfolding isBranch
-    branch-names t e b = ltb-true (named M e) (tableCount M) (both (isMadeWith (M .tables) 0 e) (ltb (named M e) (tableCount M)) (b .made) .1)
-
     -- an entry is whole where the tables one level lower are
     entry-whole : (whole : ℕ → Bool) (t i : ℕ) → t < tableCount M → i < entryCount M → 0 < lev M s t
         → ((u : ℕ) → u < tableCount M → lev M s u + 1 ≡ lev M s t → whole u ≡ true) → entryBy M map whole (lev M s t) (ent M s t i) ≡ true
@@ -94,8 +90,8 @@ module _ (M : Machine) (ok : Able M) (map : List ℕ) (outside : Outside M map) 
         branch-is up b =
             simp (
               ne-eqb l 1 (λ q. omega arith),
-              lt-ltb (named M e) (tableCount M) (branch-names t e b),
-              below (named M e) (branch-names t e b) (b .lower),
+              lt-ltb (named M e) (tableCount M) (branch-names M e (b .made)),
+              below (named M e) (branch-names M e (b .made)) (b .lower),
               or-true,
             )
 

@@ -12,10 +12,10 @@ use Rattle.tables.specs.State.{Machine, Shadow, onRecords, withRecord, tableCou
 use Rattle.tables.specs.Steps.{emptyShare}
 use Rattle.lawful.specs.Rules.{isLeaf, isRoot}
 use Rattle.trees.proofs.Trees.{Able, Outside, ent, lev, shd, Names, Branch, Trees, Less, Same}
-use Rattle.trees.proofs.Entries.{level-here, frame-here, level-other, frame-other, record-exact, zero-names-none}
+use Rattle.trees.proofs.Entries.{level-here, frame-here, level-other, frame-other, record-exact, zero-names-none, names-by}
 use Rattle.trees.proofs.Falls.{same-owner}
 use Rattle.trees.proofs.Roots.{root-table, root-owner, root-not, root-level}
-use Rattle.trees.proofs.Hangs.{by-table, names-by}
+use Rattle.trees.proofs.Hangs.{by-table}
 use Rattle.trees.proofs.Empties.{Emptied, share-emptied}
 
 module _ (M : Machine) (ok : Able M) (map : List ℕ) (outside : Outside M map) (s : Shadow) (trees : Trees M map s) (p : ℕ) (h : p < M .processors) where
