@@ -2,10 +2,10 @@
 use mathlib.Core.Path.{_≡_, refl, sym, ap, subst, _∙_}
 use mathlib.Core.Bool.{false}
 use mathlib.Core.List.{List}
-use Prim.Native.Nat.{ℕ, suc, _+_, _*_, _^_, _<_}
+use Prim.Native.Nat.{ℕ, suc, _*_, _^_, _<_}
 use native.Mathlib.Decide.{ℕ-discrete}
 use native.Mathlib.Omega.{arith}
-use lib.ListN.{length, getD}
+use lib.ListN.{length}
 use Rattle.paging.specs.declared.Guest.{Guest}
 use Rattle.paging.specs.Layout.{tables64, frameWords, pageOf}
 use Rattle.rules.specs.declared.Event.{Event}
@@ -19,7 +19,7 @@ use Rattle.shadow.proofs.Accepted.{accepted-sized, accepted-own}
 use Rattle.trees.proofs.Trees.{shd}
 use Rattle.trees.proofs.Paths.{less-full}
 use Rattle.trees.proofs.Roots.{root-table, root-owner}
-use Rattle.trees.proofs.Slots.{SameSlot, Room, with-other, with-mark, emptySlots-other, emptySlots-here, flush-others, flush-here}
+use Rattle.trees.proofs.Slots.{SameSlot, Room, same-self, with-other, with-mark, emptySlots-other, emptySlots-here, flush-others, flush-here}
 use Rattle.keeps.proofs.Alikes.{Same, same-refl, same-trans, same-store}
 use Rattle.keeps.proofs.Right.{Mapped, Right, able, room}
 use Rattle.keeps.proofs.Takes.{Takes, invlpg-takes, cr3-takes, cr3-root}
@@ -56,9 +56,6 @@ module _ (F : Fresh) (es : List Event) (k : ℕ) (s : State) (h : Holds F es k s
   abbrev pub After : State → Type 0
   After s′ = Right z map s′ → length (s′ .words) ≡ frameWords * z .frames → Holds F es (suc k) s′
 
-  same-slots : {a b : List ℕ} → b ≡ a → (q j : ℕ) → SameSlot a b q j
-  same-slots {a} {b} e q j = record { mark = ap (λ (l : List ℕ). markOf l q j) e; page = ap (λ (l : List ℕ). pageIn l q j) e; third = ap (λ (l : List ℕ). getD l (24 * q + 3 * j + 2) 0) e }
-
   -- ---- events that leave the tables alone
 
   module _ (s′ : State) (tables : s′ .shadow ≡ s .shadow) (two : e .kind ≡ 2 → ⊥) (three : e .kind ≡ 3 → ⊥) where
@@ -90,19 +87,20 @@ module _ (F : Fresh) (es : List Event) (k : ℕ) (s : State) (h : Holds F es k s
   stored q =
       quiet (afterStore (e .a) (e .b) s .state) refl (λ x. omega arith) (λ x. omega arith)
       (rw (words-store F es k q) (same-store (e .a) (e .b) (h .words)))
-      (λ r hr j hj. quiet-slot (afterStore (e .a) (e .b) s .state) refl (λ x. omega arith) (λ x. omega arith) r j hr hj (same-slots refl r j))
+      (λ r hr j hj. quiet-slot (afterStore (e .a) (e .b) s .state) refl (λ x. omega arith) (λ x. omega arith) r j hr hj (same-self (s .slots) r j))
 
   -- nothing is changed but A and D
   pub still : (e .kind ≡ 1 → ⊥) → (e .kind ≡ 2 → ⊥) → (e .kind ≡ 3 → ⊥) → (words : List ℕ) → Same words (s .words) → After (stateOf words (s .shadow) (s .slots))
   still one two three words same =
       quiet (stateOf words (s .shadow) (s .slots)) refl two three (kept-words one same)
-      (λ q hq j hj. quiet-slot (stateOf words (s .shadow) (s .slots)) refl two three q j hq hj (same-slots refl q j))
+      (λ q hq j hj. quiet-slot (stateOf words (s .shadow) (s .slots)) refl two three q j hq hj (same-self (s .slots) q j))
 
   -- one slot of p is changed, and what it holds is backed
   pub one-slot : (e .kind ≡ 1 → ⊥) → (e .kind ≡ 2 → ⊥) → (e .kind ≡ 3 → ⊥) → (s′ : State) → s′ .shadow ≡ s .shadow → s′ .words ≡ s .words → (i : ℕ)
       → ((q j : ℕ) → j < slotCount → (q ≡ p → j ≡ i → ⊥) → SameSlot (s .slots) (s′ .slots) q j) → Slotted F es (suc k) s′ p i → After s′
   one-slot one two three s′ tables words i same new =
-      quiet s′ tables two three (kept-words one (subst (λ (l : List ℕ). Same (s′ .words) l) words (same-refl (s′ .words)))) (λ q hq j hj. go q hq j hj (ℕ-discrete q p) (ℕ-discrete j i))
+      quiet s′ tables two three (kept-words one (subst (λ (l : List ℕ). Same (s′ .words) l) words (same-refl (s′ .words))))
+      (λ q hq j hj. go q hq j hj (ℕ-discrete q p) (ℕ-discrete j i))
     where
       go : (q : ℕ) → q < z .processors → (j : ℕ) → j < slotCount → Dec (q ≡ p) → Dec (j ≡ i) → Slotted F es (suc k) s′ q j
       go q hq j hj (yes a) (yes b) = rw (a, b) new
