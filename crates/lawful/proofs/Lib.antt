@@ -1,3 +1,4 @@
+pub mod Hints
 pub mod Records
 pub mod Tallies
 pub mod Wholes

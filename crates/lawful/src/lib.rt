@@ -14,9 +14,31 @@ use tables::Sizes;
 
 // ---- entries and records
 
-fn is_mapped(map: &[u64], f: u64) -> bool
+// At a frame's note stands its place in the map (a map of 256 frames at most: a byte), or that of another frame with this note.
+fn give_hints(map: &[u64], hints: &mut [u8])
+    requires { ⌜ length (now hints) ≡ 4096 ⌝ }
+    ensures { λ _. ⌜ length (now (hints .exit)) ≡ 4096 ⌝ }
+{
+    let mut i = 0;
+    while i < map.len() {
+        let k = paging::noted_at(map[i]);
+        hints[k] = (i % 256) as u8;
+        i += 1;
+    }
+}
+
+// The hint saves most searches; whatever the hints are, the answer is the same.
+fn is_mapped(map: &[u64], hints: &[u8], f: u64) -> bool
+    requires { ⌜ length (now hints) ≡ 4096 ⌝ }
     ensures { λ r. ⌜ r ≡ isMapped (now (map .entry)) f ⌝ }
 {
+    let k = paging::noted_at(f);
+    let hint = hints[k] as usize;
+    if hint < map.len() {
+        if map[hint] == f {
+            return true;
+        }
+    }
     match paging::origin_of(map, Host(f)) {
         Origin::Of(_) => true,
         Origin::Nowhere => false,
@@ -31,13 +53,14 @@ fn is_made_with(d: u64, e: u64) -> bool
     e == paging::composed(paging::rights_of(e), d, paging::frame_of(e))
 }
 
-fn is_leaf(map: &[u64], e: u64) -> bool
+fn is_leaf(map: &[u64], hints: &[u8], e: u64) -> bool
+    requires { ⌜ length (now hints) ≡ 4096 ⌝ }
     ensures { λ r. ⌜ r ≡ isLeaf tables64 (now (map .entry)) e ⌝ }
 {
     if !is_made_with(paging::rights_of(e) % 2, e) {
         return false;
     }
-    is_mapped(map, paging::frame_of(e))
+    is_mapped(map, hints, paging::frame_of(e))
 }
 
 fn is_branch(z: Sizes, e: u64) -> bool
@@ -51,8 +74,8 @@ fn is_branch(z: Sizes, e: u64) -> bool
 }
 
 // Whether an entry of a table of this level is laid out rightly.
-fn is_laid_out(map: &[u64], z: Sizes, level: u64, e: u64) -> bool
-    requires { ⌜ Sized z ⌝ }
+fn is_laid_out(map: &[u64], hints: &[u8], z: Sizes, level: u64, e: u64) -> bool
+    requires { ⌜ Sized z × (length (now hints) ≡ 4096) ⌝ }
     ensures { λ r. ⌜ r ≡ isLaidOut (machine64 z) (now (map .entry)) level e ⌝ }
 {
     if e == 0 {
@@ -62,7 +85,7 @@ fn is_laid_out(map: &[u64], z: Sizes, level: u64, e: u64) -> bool
         return false;
     }
     if level == 1 {
-        return is_leaf(map, e);
+        return is_leaf(map, hints, e);
     }
     is_branch(z, e)
 }
@@ -86,24 +109,24 @@ fn names_lower(records: &[u64], z: Sizes, t: u64, e: u64) -> bool
     tables::level_of(records, u) == level - 1
 }
 
-fn entry_right(map: &[u64], records: &[u64], z: Sizes, t: u64, e: u64) -> bool
-    requires { ⌜ Sized z × (t ≤ 64) ⌝ }
+fn entry_right(map: &[u64], hints: &[u8], records: &[u64], z: Sizes, t: u64, e: u64) -> bool
+    requires { ⌜ Sized z × (t ≤ 64) × (length (now hints) ≡ 4096) ⌝ }
     ensures { λ r. ⌜ r ≡ entryRight (machine64 z) (now (map .entry)) (now (records .entry)) t e ⌝ }
 {
-    if !is_laid_out(map, z, tables::level_of(records, t), e) {
+    if !is_laid_out(map, hints, z, tables::level_of(records, t), e) {
         return false;
     }
     names_lower(records, z, t, e)
 }
 
-fn entries_right(map: &[u64], pool: &[u64], records: &[u64], z: Sizes, t: u64) -> bool
-    requires { ⌜ Sized z × (t ≤ 64) ⌝ }
+fn entries_right(map: &[u64], hints: &[u8], pool: &[u64], records: &[u64], z: Sizes, t: u64) -> bool
+    requires { ⌜ Sized z × (t ≤ 64) × (length (now hints) ≡ 4096) ⌝ }
     ensures { λ r. ⌜ r ≡ all 512 (λ i. entryRight (machine64 z) (now (map .entry)) (now (records .entry)) t (entryOf (machine64 z) (now (pool .entry)) t i)) ⌝ }
 {
     let mut i = 0;
     while i < 512 {
         let e = tables::entry_at(pool, t, i);
-        if !entry_right(map, records, z, t, e) {
+        if !entry_right(map, hints, records, z, t, e) {
             return false;
         }
         i += 1;
@@ -172,8 +195,15 @@ fn tally(pool: &[u64], counts: &mut [u64], z: Sizes)
     }
 }
 
-fn records_right(map: &[u64], pool: &[u64], records: &[u64], counts: &[u64], z: Sizes) -> bool
-    requires { ⌜ Sized z ⌝ }
+fn records_right(
+    map: &[u64],
+    hints: &[u8],
+    pool: &[u64],
+    records: &[u64],
+    counts: &[u64],
+    z: Sizes,
+) -> bool
+    requires { ⌜ Sized z × (length (now hints) ≡ 4096) ⌝ }
     requires { ⌜ Tallied z (now pool) (now counts) (tableCount (machine64 z)) ⌝ }
     ensures { λ r. ⌜ r ≡ all (tableCount (machine64 z)) (tableRight (machine64 z) (now (map .entry)) (shadowOf (now (pool .entry)) (now (records .entry)))) ⌝ }
 {
@@ -183,7 +213,7 @@ fn records_right(map: &[u64], pool: &[u64], records: &[u64], counts: &[u64], z: 
         if !record_right(records, z, counts[t as usize], t) {
             return false;
         }
-        if !entries_right(map, pool, records, z, t) {
+        if !entries_right(map, hints, pool, records, z, t) {
             return false;
         }
         t += 1;
@@ -191,20 +221,20 @@ fn records_right(map: &[u64], pool: &[u64], records: &[u64], counts: &[u64], z: 
     true
 }
 
-fn tables_right(map: &[u64], pool: &[u64], records: &[u64], z: Sizes) -> bool
-    requires { ⌜ Sized z ⌝ }
+fn tables_right(map: &[u64], hints: &[u8], pool: &[u64], records: &[u64], z: Sizes) -> bool
+    requires { ⌜ Sized z × (length (now hints) ≡ 4096) ⌝ }
     ensures { λ r. ⌜ r ≡ all (tableCount (machine64 z)) (tableRight (machine64 z) (now (map .entry)) (shadowOf (now (pool .entry)) (now (records .entry)))) ⌝ }
 {
     let mut counts = [0u64; 64];
     tally(pool, &mut counts, z);
-    records_right(map, pool, records, &counts, z)
+    records_right(map, hints, pool, records, &counts, z)
 }
 
 // ---- whole tables
 
 // Whether every entry of table t, of the given level, is whole.
-fn table_whole(map: &[u64], pool: &[u64], z: Sizes, t: u64, level: u64) -> bool
-    requires { ⌜ Sized z × (t ≤ 64) ⌝ }
+fn table_whole(map: &[u64], hints: &[u8], pool: &[u64], z: Sizes, t: u64, level: u64) -> bool
+    requires { ⌜ Sized z × (t ≤ 64) × (length (now hints) ≡ 4096) ⌝ }
     ensures { λ r. ⌜ r ≡ tableWhole (machine64 z) (now (map .entry)) (now (pool .entry)) level t ⌝ }
 {
     if level == 0 {
@@ -213,7 +243,7 @@ fn table_whole(map: &[u64], pool: &[u64], z: Sizes, t: u64, level: u64) -> bool
     let mut i = 0;
     while i < 512 {
         let e = tables::entry_at(pool, t, i);
-        if !entry_whole(map, pool, z, e, level) {
+        if !entry_whole(map, hints, pool, z, e, level) {
             return false;
         }
         i += 1;
@@ -222,30 +252,30 @@ fn table_whole(map: &[u64], pool: &[u64], z: Sizes, t: u64, level: u64) -> bool
 }
 
 // Whether e, an entry of a table of the given level, is whole.
-fn entry_whole(map: &[u64], pool: &[u64], z: Sizes, e: u64, level: u64) -> bool
-    requires { ⌜ Sized z × (0 < level) ⌝ }
+fn entry_whole(map: &[u64], hints: &[u8], pool: &[u64], z: Sizes, e: u64, level: u64) -> bool
+    requires { ⌜ Sized z × (0 < level) × (length (now hints) ≡ 4096) ⌝ }
     ensures { λ r. ⌜ r ≡ entryWhole (machine64 z) (now (map .entry)) (now (pool .entry)) level e ⌝ }
 {
     if e == 0 {
         return true;
     }
     if level == 1 {
-        return is_leaf(map, e);
+        return is_leaf(map, hints, e);
     }
     let u = tables::named_by(z, e);
     if u >= tables::table_count(z) {
         return false;
     }
-    table_whole(map, pool, z, u, level - 1)
+    table_whole(map, hints, pool, z, u, level - 1)
 }
 
-fn roots_whole(map: &[u64], pool: &[u64], z: Sizes) -> bool
-    requires { ⌜ Sized z ⌝ }
+fn roots_whole(map: &[u64], hints: &[u8], pool: &[u64], z: Sizes) -> bool
+    requires { ⌜ Sized z × (length (now hints) ≡ 4096) ⌝ }
     ensures { λ r. ⌜ r ≡ all (z .processors) (λ p. tableWhole (machine64 z) (now (map .entry)) (now (pool .entry)) 4 (rootOf (machine64 z) p)) ⌝ }
 {
     let mut p = 0;
     while p < z.processors {
-        if !table_whole(map, pool, z, tables::root_of(z, p), 4) {
+        if !table_whole(map, hints, pool, z, tables::root_of(z, p), 4) {
             return false;
         }
         p += 1;
@@ -324,16 +354,32 @@ fn slots_right(pool: &[u64], slots: &[u64], z: Sizes) -> bool
     true
 }
 
+fn is_lawful_by(
+    map: &[u64],
+    hints: &[u8],
+    pool: &[u64],
+    records: &[u64],
+    slots: &[u64],
+    z: Sizes,
+) -> bool
+    requires { ⌜ Sized z × (24 * z .processors ≤ length (now slots)) × (length (now hints) ≡ 4096) ⌝ }
+    ensures { λ r. ⌜ ((words : List ℕ) → r ≡ lawful (machine64 z) (now (map .entry)) (stateOf words (shadowOf (now (pool .entry)) (now (records .entry))) (now (slots .entry)))) ⌝ }
+{
+    if !tables_right(map, hints, pool, records, z) {
+        return false;
+    }
+    if !roots_whole(map, hints, pool, z) {
+        return false;
+    }
+    slots_right(pool, slots, z)
+}
+
 // Whether all state rules hold.
 pub fn is_lawful(map: &[u64], pool: &[u64], records: &[u64], slots: &[u64], z: Sizes) -> bool
     requires { ⌜ Sized z × (24 * z .processors ≤ length (now slots)) ⌝ }
     ensures { λ r. ⌜ ((words : List ℕ) → r ≡ lawful (machine64 z) (now (map .entry)) (stateOf words (shadowOf (now (pool .entry)) (now (records .entry))) (now (slots .entry)))) ⌝ }
 {
-    if !tables_right(map, pool, records, z) {
-        return false;
-    }
-    if !roots_whole(map, pool, z) {
-        return false;
-    }
-    slots_right(pool, slots, z)
+    let mut hints = [0u8; 4096];
+    give_hints(map, &mut hints);
+    is_lawful_by(map, &hints, pool, records, slots, z)
 }

@@ -171,7 +171,7 @@ pub fn is_new(map: &[u64], n: usize, f: u64) -> bool
     true
 }
 
-fn noted_at(f: u64) -> usize
+pub fn noted_at(f: u64) -> usize
     ensures { λ r. ⌜ (r ≡ notedAt f) × (r < 4096) ⌝ }
 {
     ((f ^ (f >> 12)) & 0xFFF) as usize

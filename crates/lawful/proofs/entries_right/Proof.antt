@@ -12,29 +12,29 @@ use Rattle.lawful.proofs.entries_right.Statement.{statement}
 use Rattle.lawful.proofs.entries_right.Tie as tie
 
 abbrev Inv-loop : tie.InvT-loop
-Inv-loop map pool records z t i₀ i =
+Inv-loop map hints pool records z t i₀ i =
     (i ≤ 512) × (all i (λ k. entryRight (machine64 z) map records t (entryOf (machine64 z) pool t k)) ≡ true)
 
 abbrev μ-loop : tie.MeasureT-loop
-μ-loop map pool records z t i₀ i = 512 - i
+μ-loop map hints pool records z t i₀ i = 512 - i
 
 -- the test of the loop is the test of its entry
 tested : (c : tie.After-entry-right Inv-loop μ-loop)
-    → entryRight (machine64 (c .before .before .before .before .before .before .before .args .z)) (c .before .before .before .before .before .before .before .args .map .now) (c .before .before .before .before .before .before .before .args .records .now) (c .before .before .before .before .before .before .before .args .t) (entryOf (machine64 (c .before .before .before .before .before .before .before .args .z)) (c .before .before .before .before .before .before .before .args .pool .now) (c .before .before .before .before .before .before .before .args .t) (c .before .before .before .loop .i))
+    → entryRight (machine64 (c .before .before .before .before .before .before .before .before .args .z)) (c .before .before .before .before .before .before .before .before .args .map .now) (c .before .before .before .before .before .before .before .before .args .records .now) (c .before .before .before .before .before .before .before .before .args .t) (entryOf (machine64 (c .before .before .before .before .before .before .before .before .args .z)) (c .before .before .before .before .before .before .before .before .args .pool .now) (c .before .before .before .before .before .before .before .before .args .t) (c .before .before .before .loop .i))
     ≡ c .entry-right .result
 tested c =
-    let a = c .before .before .before .before .before .before .before .args in
+    let a = c .before .before .before .before .before .before .before .before .args in
     sym (c .entry-right .ensures ∙ ap (entryRight (machine64 (a .z)) (a .map .now) (a .records .now) (a .t)) (c .before .entry-at .ensures))
 
 returns : tie.Need-returns Inv-loop μ-loop
 returns c =
-    let a = c .before .before .before .before .before .before .before .before .args in
+    let a = c .before .before .before .before .before .before .before .before .before .args in
     sym (all-fails (λ k. entryRight (machine64 (a .z)) (a .map .now) (a .records .now) (a .t) (entryOf (machine64 (a .z)) (a .pool .now) (a .t) k)) 512 (c .before .before .before .before .loop .i) (c .before .before .before .loop-test .taken)
     (tested (c .before) ∙ not-true _ (c .if1 .taken)))
 
 loop-again : tie.Need-loop-again Inv-loop μ-loop
 loop-again c =
-    let a = c .before .before .before .before .before .before .before .before .args in (
+    let a = c .before .before .before .before .before .before .before .before .before .args in (
       omega arith,
       all-more (λ k. entryRight (machine64 (a .z)) (a .map .now) (a .records .now) (a .t) (entryOf (machine64 (a .z)) (a .pool .now) (a .t) k)) (c .before .before .before .before .loop .i) (c .before .before .before .before .loop .inv .1)
           (tested (c .before) ∙ not-false _ (c .if1 .left)),
@@ -42,7 +42,7 @@ loop-again c =
 
 returns-2 : tie.Need-returns-2 Inv-loop μ-loop
 returns-2 c =
-    let a = c .before .before .before .before .before .args in
+    let a = c .before .before .before .before .before .before .args in
     sym (ap (λ (n : ℕ). all n (λ k. entryRight (machine64 (a .z)) (a .map .now) (a .records .now) (a .t) (entryOf (machine64 (a .z)) (a .pool .now) (a .t) k))) (omega arith) ∙ c .before .loop .inv .1)
 
 pub entries-right-spec : {M : Type 1} → statement M
@@ -52,8 +52,8 @@ entries-right-spec =
     Inv-loop
     μ-loop
     (λ c. (omega arith, all-none _))
-    (λ c κs. omega (arith, c .before .before .before .before .before .pre))
-    (λ c κs. c .before .before .before .before .before .before .pre)
+    (λ c κs. omega (arith, c .before .before .before .before .before .before .pre))
+    (λ c κs. c .before .before .before .before .before .before .before .pre)
     returns
     (λ c. omega arith)
     (λ c. omega arith)

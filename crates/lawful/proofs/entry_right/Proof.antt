@@ -9,9 +9,9 @@ use Rattle.lawful.proofs.entry_right.Statement.{statement}
 use Rattle.lawful.proofs.entry_right.Tie as tie
 
 laid : (c : tie.After-is-laid-out)
-    → c .is-laid-out .result ≡ isLaidOut (machine64 (c .before .before .before .before .args .z)) (c .before .before .before .before .args .map .now) (levelOf (c .before .before .before .before .args .records .now) (c .before .before .before .before .args .t)) (c .before .before .before .before .args .e)
+    → c .is-laid-out .result ≡ isLaidOut (machine64 (c .before .before .before .before .before .args .z)) (c .before .before .before .before .before .args .map .now) (levelOf (c .before .before .before .before .before .args .records .now) (c .before .before .before .before .before .args .t)) (c .before .before .before .before .before .args .e)
 laid c =
-    let a = c .before .before .before .before .args in
+    let a = c .before .before .before .before .before .args in
     c .is-laid-out .ensures ∙ ap (λ (l : ℕ). isLaidOut (machine64 (a .z)) (a .map .now) l (a .e)) (c .before .level-of .ensures)
 
 returns : tie.Need-returns

@@ -14,9 +14,9 @@ low : (e : ℕ) → rightsOf tables64 e % 2 ≡ bit e 1
 unfolding rightsOf
 low e = omega arith
 
-made : (c : tie.After-is-made-with) → c .is-made-with .result ≡ isMadeWith tables64 (bit (c .before .before .before .args .e) 1) (c .before .before .before .args .e)
+made : (c : tie.After-is-made-with) → c .is-made-with .result ≡ isMadeWith tables64 (bit (c .before .before .before .before .args .e) 1) (c .before .before .before .before .args .e)
 made c =
-    let e = c .before .before .before .args .e in
+    let e = c .before .before .before .before .args .e in
     c .is-made-with .ensures ∙ ap (λ (d : ℕ). isMadeWith tables64 d e) (ap (λ (r : ℕ). r % 2) (c .before .rights-of .ensures) ∙ low e)
 
 returns : tie.Need-returns
@@ -27,7 +27,7 @@ returns-2 : tie.Need-returns-2
 unfolding isLeaf
 returns-2 c =
     simp (sym (made (c .before .before .before)) ∙ not-false _ (c .before .before .if1 .left))
-    (c .is-mapped .ensures ∙ ap (isMapped (c .before .before .before .before .before .before .args .map .now)) (c .before .frame-of .ensures))
+    (c .is-mapped .ensures ∙ ap (isMapped (c .before .before .before .before .before .before .before .args .map .now)) (c .before .frame-of .ensures))
 
 pub is-leaf-spec : {M : Type 1} → statement M
 is-leaf-spec = tie.close (tie.spec (λ c κs. search needs) (λ c κs. search needs) returns (λ c κs. search needs) (λ c κs. search needs) returns-2)

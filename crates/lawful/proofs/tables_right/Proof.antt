@@ -9,7 +9,7 @@ tables-right-spec =
     tie.close
     (tie.spec
     (λ c. search needs)
-    (λ c κs. (c .before .before .before .before .pre, tally-zero (c .before .before .before .before .args .z) (c .before .before .before .before .pre) (c .before .before .before .before .args .pool .now)))
+    (λ c κs. (c .before .before .before .before .before .pre .0, tally-zero (c .before .before .before .before .before .args .z) (c .before .before .before .before .before .pre .0) (c .before .before .before .before .before .args .pool .now)))
     (λ c. search needs)
     (λ c κs. search needs)
     (λ c. search needs))
