@@ -1,59 +1,44 @@
-// The two calls, on the parts of the buffers that the script asks for; the buffers are held to copies made before.
+// The two calls, on copies of the buffers, cut as the script asks for. What a call leaves is held to the state before it,
+// and put there.
 use crate::text;
+use buffers::at;
+use buffers::begins;
+use buffers::copy;
 use rules::Event;
+use shadow::Answer;
 use tables::Sizes;
 ghost use Prim.Native.Nat.{_≤_};
+ghost use mathlib.Core.Path.{_≡_};
+ghost use lib.ListN.{length};
 
-// As much of xs as there is room for.
-pub fn copy(to: &mut [u64], xs: &[u64]) {
-    let mut i = 0;
-    while i < xs.len() {
-        if i >= to.len() {
-            return;
-        }
-        to[i] = xs[i];
-        i += 1;
-    }
-}
+// Where each buffer begins in the state: what is given (9 numbers), map, words, pool, records, slots.
+pub const MAP: usize = 9;
 
-// Whether all of xs stands at the beginning of old.
-fn begins(old: &[u64], xs: &[u64]) -> bool {
-    let mut i = 0;
-    while i < xs.len() {
-        if i >= old.len() {
-            return false;
-        }
-        if old[i] != xs[i] {
-            return false;
-        }
-        i += 1;
-    }
-    true
-}
+pub const WORDS: usize = 15;
 
-fn shadow_kept(
-    old_pool: &[u64],
-    pool: &[u64],
-    old_records: &[u64],
-    records: &[u64],
-    old_slots: &[u64],
-    slots: &[u64],
-) -> bool {
-    if !begins(old_pool, pool) {
-        return false;
-    }
-    if !begins(old_records, records) {
-        return false;
-    }
-    begins(old_slots, slots)
-}
+pub const POOL: usize = 3087;
+
+pub const RECORDS: usize = 13327;
+
+pub const SLOTS: usize = 13367;
+
+pub const END: usize = 13487;
 
 fn sizes_of(given: &[u64]) -> Sizes {
     Sizes {
-        frames: text::at(given, 0),
-        processors: text::at(given, 1),
-        share: text::at(given, 2),
-        base: text::at(given, 3),
+        frames: at(given, 0),
+        processors: at(given, 1),
+        share: at(given, 2),
+        base: at(given, 3),
+    }
+}
+
+fn event_of(numbers: &[u64]) -> Event {
+    Event {
+        proc: at(numbers, 0),
+        kind: at(numbers, 1),
+        a: at(numbers, 2),
+        b: at(numbers, 3),
     }
 }
 
@@ -61,98 +46,162 @@ fn sizes_of(given: &[u64]) -> Sizes {
 fn part(given: &[u64], k: u64, most: usize) -> usize
     ensures { λ r. ⌜ r ≤ most ⌝ }
 {
-    let n = text::at(given, k);
+    let n = at(given, k);
     if n < most as u64 {
         return n as usize;
     }
     most
 }
 
-fn put_setup(
-    map: &[u64],
-    cr3s: &[u64],
+fn take_part(state: &[u64], from: usize, xs: &mut [u64]) {
+    if from < state.len() {
+        copy(xs, &state[from..]);
+    }
+}
+
+fn take(
+    state: &[u64],
+    words: &mut [u64],
     pool: &mut [u64],
     records: &mut [u64],
     slots: &mut [u64],
-    z: Sizes,
 ) {
-    let mut old_pool = [0u64; 10240];
-    let mut old_records = [0u64; 40];
-    let mut old_slots = [0u64; 120];
-    copy(&mut old_pool, pool);
-    copy(&mut old_records, records);
-    copy(&mut old_slots, slots);
-    let r = shadow::setup(map, cr3s, pool, records, slots, z);
-    let kept = shadow_kept(&old_pool, pool, &old_records, records, &old_slots, slots);
-    text::print_answer(r, true, kept);
+    take_part(state, WORDS, words);
+    take_part(state, POOL, pool);
+    take_part(state, RECORDS, records);
+    take_part(state, SLOTS, slots);
 }
 
-fn put_event(
+fn put_back(state: &mut [u64], from: usize, xs: &[u64]) {
+    if from < state.len() {
+        copy(&mut state[from..], xs);
+    }
+}
+
+fn give(state: &mut [u64], words: &[u64], pool: &[u64], records: &[u64], slots: &[u64]) {
+    put_back(state, WORDS, words);
+    put_back(state, POOL, pool);
+    put_back(state, RECORDS, records);
+    put_back(state, SLOTS, slots);
+}
+
+fn stands(state: &[u64], from: usize, xs: &[u64]) -> bool {
+    if from < state.len() {
+        return begins(&state[from..], xs);
+    }
+    false
+}
+
+fn kept(state: &[u64], words: &[u64], pool: &[u64], records: &[u64], slots: &[u64]) -> bool {
+    if !stands(state, WORDS, words) {
+        return false;
+    }
+    if !stands(state, POOL, pool) {
+        return false;
+    }
+    if !stands(state, RECORDS, records) {
+        return false;
+    }
+    stands(state, SLOTS, slots)
+}
+
+fn answer(
+    c: u8,
+    numbers: &[u64],
     map: &[u64],
     words: &mut [u64],
     pool: &mut [u64],
     records: &mut [u64],
     slots: &mut [u64],
     z: Sizes,
-    e: Event,
-) {
-    let mut old_words = [0u64; 3072];
-    let mut old_pool = [0u64; 10240];
-    let mut old_records = [0u64; 40];
-    let mut old_slots = [0u64; 120];
-    copy(&mut old_words, words);
-    copy(&mut old_pool, pool);
-    copy(&mut old_records, records);
-    copy(&mut old_slots, slots);
-    let r = shadow::event(map, words, pool, records, slots, z, e);
-    let words_kept = begins(&old_words, words);
-    let kept = shadow_kept(&old_pool, pool, &old_records, records, &old_slots, slots);
-    text::print_answer(r, words_kept, kept);
+) -> Answer {
+    if c == b'c' {
+        return shadow::setup(map, numbers, pool, records, slots, z);
+    }
+    shadow::event(map, words, pool, records, slots, z, event_of(numbers))
 }
 
-pub fn cut_setup(
-    given: &[u64],
-    map: &[u64],
-    cr3s: &[u64],
+fn show_answer(
+    c: u8,
+    numbers: &[u64],
+    state: &[u64],
+    words: &mut [u64],
     pool: &mut [u64],
     records: &mut [u64],
     slots: &mut [u64],
-) {
-    let g = part(given, 4, map.len());
-    let t = part(given, 6, pool.len());
-    let r = part(given, 7, records.len());
-    let s = part(given, 8, slots.len());
-    put_setup(
-        &map[0..g],
-        cr3s,
-        &mut pool[0..t],
-        &mut records[0..r],
-        &mut slots[0..s],
-        sizes_of(given),
+)
+    requires { ⌜ length (now state) ≡ 13487 ⌝ }
+{
+    let end = MAP + part(state, 4, 6);
+    let r = answer(
+        c,
+        numbers,
+        &state[MAP..end],
+        words,
+        pool,
+        records,
+        slots,
+        sizes_of(state),
+    );
+    text::print_answer(r, kept(state, words, pool, records, slots));
+}
+
+fn cut(
+    c: u8,
+    numbers: &[u64],
+    state: &[u64],
+    words: &mut [u64],
+    pool: &mut [u64],
+    records: &mut [u64],
+    slots: &mut [u64],
+)
+    requires { ⌜ length (now state) ≡ 13487 ⌝ }
+{
+    let w = part(state, 5, words.len());
+    let t = part(state, 6, pool.len());
+    let r = part(state, 7, records.len());
+    let s = part(state, 8, slots.len());
+    show_answer(
+        c,
+        numbers,
+        state,
+        &mut words[..w],
+        &mut pool[..t],
+        &mut records[..r],
+        &mut slots[..s],
     );
 }
 
-pub fn cut_event(
-    given: &[u64],
-    map: &[u64],
+fn put_in(
+    c: u8,
+    numbers: &[u64],
+    state: &mut [u64],
     words: &mut [u64],
     pool: &mut [u64],
     records: &mut [u64],
     slots: &mut [u64],
-    e: Event,
-) {
-    let g = part(given, 4, map.len());
-    let w = part(given, 5, words.len());
-    let t = part(given, 6, pool.len());
-    let r = part(given, 7, records.len());
-    let s = part(given, 8, slots.len());
-    put_event(
-        &map[0..g],
-        &mut words[0..w],
-        &mut pool[0..t],
-        &mut records[0..r],
-        &mut slots[0..s],
-        sizes_of(given),
-        e,
+)
+    requires { ⌜ length (now state) ≡ 13487 ⌝ }
+{
+    cut(c, numbers, state, words, pool, records, slots);
+    give(state, words, pool, records, slots);
+}
+
+pub fn put(c: u8, numbers: &[u64], state: &mut [u64])
+    requires { ⌜ length (now state) ≡ 13487 ⌝ }
+{
+    let mut words = [0u64; 3072];
+    let mut pool = [0u64; 10240];
+    let mut records = [0u64; 40];
+    let mut slots = [0u64; 120];
+    take(state, &mut words, &mut pool, &mut records, &mut slots);
+    put_in(
+        c,
+        numbers,
+        state,
+        &mut words,
+        &mut pool,
+        &mut records,
+        &mut slots,
     );
 }
