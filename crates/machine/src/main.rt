@@ -5,7 +5,6 @@
 // cr3s (a setup call), event (an event call): the answer's refusal, kind and value, and whether a buffer changed;
 // Words, Pool, Records, Slots (places): what stands there. Any other line is printed as it is.
 // All buffers stand in one, the state, one after the other.
-mod call;
 mod text;
 
 ghost use Prim.Native.Nat.{_≤_};
@@ -24,36 +23,36 @@ fn part_of(c: u8) -> Part
     if c == b'g' {
         return Part {
             from: 0,
-            to: call::MAP,
+            to: calls::MAP,
         };
     }
     if c == b'm' {
         return Part {
-            from: call::MAP,
-            to: call::WORDS,
+            from: calls::MAP,
+            to: calls::WORDS,
         };
     }
     if c == b'p' || c == b'P' {
         return Part {
-            from: call::POOL,
-            to: call::RECORDS,
+            from: calls::POOL,
+            to: calls::RECORDS,
         };
     }
     if c == b'r' || c == b'R' {
         return Part {
-            from: call::RECORDS,
-            to: call::SLOTS,
+            from: calls::RECORDS,
+            to: calls::SLOTS,
         };
     }
     if c == b's' || c == b'S' {
         return Part {
-            from: call::SLOTS,
-            to: call::END,
+            from: calls::SLOTS,
+            to: calls::END,
         };
     }
     Part {
-        from: call::WORDS,
-        to: call::POOL,
+        from: calls::WORDS,
+        to: calls::POOL,
     }
 }
 
@@ -92,7 +91,7 @@ fn speak(c: u8, numbers: &[u64], state: &mut [u64])
     requires { ⌜ length (now state) ≡ 13487 ⌝ }
 {
     if c == b'c' || c == b'e' {
-        call::put(c, numbers, state);
+        calls::put(c, numbers, state);
         return;
     }
     if text::is_shown(c) {

@@ -3,7 +3,6 @@ use buffers::at;
 use buffers::print;
 use buffers::print_number;
 use cursor::Digits;
-use shadow::Answer;
 ghost use Prim.Native.Nat.{_≤_};
 ghost use lib.ListN.{length};
 
@@ -64,28 +63,4 @@ fn print_at(xs: &[u64], places: &[u64]) {
 pub fn print_places(xs: &[u64], places: &[u64]) {
     print(b":");
     print_at(xs, places);
-}
-
-fn refusal_of(r: Answer) -> u64 {
-    match r {
-        Answer::Done => 0,
-        Answer::Address(_) => 0,
-        Answer::Fault(_) => 0,
-        Answer::Again => 0,
-        Answer::NoStep => 0,
-        Answer::Refused(n) => n,
-    }
-}
-
-// "refusal, kind, value", and whether all buffers are as they were.
-pub fn print_answer(r: Answer, kept: bool) {
-    print(b":");
-    print_number(refusal_of(r));
-    print_number(shadow::kind_of(r));
-    print_number(shadow::value_of(r));
-    if kept {
-        print(b" unchanged");
-        return;
-    }
-    print(b" changed");
 }

@@ -3,8 +3,8 @@ use borrow.Author.Needs.{needs}
 use mathlib.Core.Path.{sym}
 use native.Mathlib.Omega.{arith}
 use lib.Seq.{length-take-le}
-use Rattle.machine.proofs.call.cut.Statement.{statement}
-use Rattle.machine.proofs.call.cut.Tie as tie
+use Rattle.calls.proofs.cut.Statement.{statement}
+use Rattle.calls.proofs.cut.Tie as tie
 
 pub cut-spec : {M : Type 1} → statement M
 cut-spec =

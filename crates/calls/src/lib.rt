@@ -1,9 +1,10 @@
-// The two calls, on copies of the buffers, cut as the script asks for. What a call leaves is held to the state before it,
-// and put there.
-use crate::text;
+// The machine's two calls, for the program that plays a script: on copies of the state's buffers, cut as the script asks
+// for. What a call leaves is held to the state before it, and put there.
 use buffers::at;
 use buffers::begins;
 use buffers::copy;
+use buffers::print;
+use buffers::print_number;
 use rules::Event;
 use shadow::Answer;
 use tables::Sizes;
@@ -23,6 +24,30 @@ pub const RECORDS: usize = 13327;
 pub const SLOTS: usize = 13367;
 
 pub const END: usize = 13487;
+
+fn refusal_of(r: Answer) -> u64 {
+    match r {
+        Answer::Done => 0,
+        Answer::Address(_) => 0,
+        Answer::Fault(_) => 0,
+        Answer::Again => 0,
+        Answer::NoStep => 0,
+        Answer::Refused(n) => n,
+    }
+}
+
+// "refusal, kind, value", and whether all buffers are as they were.
+fn print_answer(r: Answer, kept: bool) {
+    print(b":");
+    print_number(refusal_of(r));
+    print_number(shadow::kind_of(r));
+    print_number(shadow::value_of(r));
+    if kept {
+        print(b" unchanged");
+        return;
+    }
+    print(b" changed");
+}
 
 fn sizes_of(given: &[u64]) -> Sizes {
     Sizes {
@@ -143,7 +168,7 @@ fn show_answer(
         slots,
         sizes_of(state),
     );
-    text::print_answer(r, kept(state, words, pool, records, slots));
+    print_answer(r, kept(state, words, pool, records, slots));
 }
 
 fn cut(
