@@ -3,6 +3,7 @@
 use crate::print;
 use buffers::draw;
 use buffers::print_numbers;
+use listing::Listed;
 use rules::Question;
 
 const MAP: [u64; 6] = [100, 101, 102, 103, 104, 105];
@@ -184,6 +185,12 @@ pub fn ask(proc: u64, addr: u64, request: u64) -> Question {
     }
 }
 
+fn show_refusal(r: Listed, words: &[u64], work: &[u8], outcomes: &[u64]) {
+    buffers::print(b":");
+    buffers::print_number(print::refusal_of(r));
+    print::kept(draw::all_hold(words, work, outcomes));
+}
+
 // Calls on buffers full of drawn numbers, so that a change of any element shows.
 fn show_in(
     map: &[u64],
@@ -196,9 +203,7 @@ fn show_in(
 ) {
     draw::fill_all(words, work, outcomes);
     let r = listing::list(map, words, cr3s, events, work, outcomes, q);
-    buffers::print(b":");
-    buffers::print_number(print::refusal_of(r));
-    print::kept(draw::all_hold(words, work, outcomes));
+    show_refusal(r, words, work, outcomes);
 }
 
 fn show_call(map: &[u64], cr3s: &[u64], events: &[u64], q: Question) {
