@@ -1,134 +1,43 @@
 // The largest list call: 256 frames, 4 processors, 4,096 events, all drawn.
-// Entries and stores keep to sixteen frames, 0, 17, .., 255, so that walks change often; 272 is beyond the guest.
-use crate::draw;
-use crate::draw::high;
-use crate::draw::next;
 use crate::print;
-use rules::Question;
-
-const MAP_BASE: u64 = 1000;
+use crate::sides::ask;
+use buffers::guest;
 
 const CR3S: [u64; 4] = [0, 17, 34, 51];
 
-// Indices 1, 2, 3 and 4, offset 5.
-const ADDRESS: u64 = (1 << 39) + (2 << 30) + (3 << 21) + (4 << 12) + 5;
-
-// The flags of an entry: mostly all rights; no US, no RW, no P, NX.
-const FLAGS: [u64; 8] = [7, 7, 7, 7, 3, 5, 6, 0x8000_0000_0000_0007];
-
-fn entry(h: u64) -> u64 {
-    (17 * (h % 17)) << 12 | FLAGS[(h / 17 % 8) as usize]
-}
-
-// Stores mostly; of each other kind one in 64.
-fn drawn_kind(h: u64) -> u64 {
-    let d = h % 64;
-    if d == 0 || d > 7 {
-        return 1;
-    }
-    d
-}
-
-// Word, address or the page after it, frame, slot.
-fn first_number(kind: u64, h: u64) -> u64 {
-    match kind {
-        1 => 512 * (17 * (h % 16)) + 1 + h / 16 % 4,
-        3 => 17 * (h % 16),
-        6 => h % 8,
-        7 => h % 8,
-        _ => ADDRESS + 4096 * (h % 2),
-    }
-}
-
-fn second_number(kind: u64, h: u64) -> u64 {
-    match kind {
-        1 => entry(h),
-        4 => h % 6,
-        5 => h % 8,
-        _ => 0,
-    }
-}
-
-// An event's kind is drawn at its second place, and says what the last two are.
-fn kind_at(place: usize, kind: u64, h: u64) -> u64 {
-    if place == 1 {
-        return drawn_kind(h);
-    }
-    kind
-}
-
-fn number_at(place: usize, kind: u64, h: u64) -> u64 {
-    match place {
-        0 => h % 4,
-        1 => kind,
-        2 => first_number(kind, h),
-        _ => second_number(kind, h),
-    }
-}
-
-fn put_events(events: &mut [u64]) {
-    let mut x = 1;
-    let mut kind = 1;
-    let mut i = 0;
-    while i < events.len() {
-        x = next(x);
-        kind = kind_at(i % 4, kind, high(x));
-        events[i] = number_at(i % 4, kind, high(x));
-        i += 1;
-    }
-}
-
-fn put_entries(words: &mut [u64]) {
-    let mut x = 6;
-    let mut i = 0;
-    while i < words.len() {
-        x = next(x);
-        words[i] = entry(high(x));
-        i += 1;
-    }
-}
-
-fn put_map(map: &mut [u64]) {
-    let mut f: u64 = MAP_BASE;
-    let mut i = 0;
-    while i < map.len() {
-        map[i] = f;
-        f = std::num::wrapping_add_u64(f, 1);
-        i += 1;
-    }
-}
-
 fn show_sums(words: &[u64], work: &[u8]) {
-    print::text(b"sums of the words and of the work bytes:");
-    print::number(draw::sum(words));
-    print::number(draw::sum_bytes(work));
-    print::text(b"\n");
+    buffers::print(b"sums of the words and of the work bytes:");
+    buffers::print_number(buffers::sum(words));
+    buffers::print_number(buffers::sum_bytes(work));
+    buffers::print(b"\n");
+}
+
+fn show_in(map: &[u64], words: &mut [u64], events: &[u64], work: &mut [u8], outcomes: &mut [u64]) {
+    guest::put_entries(words);
+    buffers::print(b"256 frames, 4,096 events:");
+    print::listed(
+        map,
+        words,
+        &CR3S,
+        events,
+        work,
+        outcomes,
+        ask(1, guest::ADDRESS, 1),
+    );
+    show_sums(words, work);
+}
+
+fn show_drawn(map: &[u64], events: &[u64]) {
+    let mut words = [0u64; 131072];
+    let mut work = [0u8; 10240];
+    let mut outcomes = [0u64; 518];
+    show_in(map, &mut words, events, &mut work, &mut outcomes);
 }
 
 pub fn show() {
     let mut map = [0u64; 256];
-    let mut words = [0u64; 131072];
     let mut events = [0u64; 16384];
-    let mut work = [0u8; 10240];
-    let mut outcomes = [0u64; 518];
-    put_map(&mut map);
-    put_entries(&mut words);
-    put_events(&mut events);
-    let r = listing::list(
-        &map,
-        &mut words,
-        &CR3S,
-        &events,
-        &mut work,
-        &mut outcomes,
-        Question {
-            proc: 1,
-            addr: ADDRESS,
-            request: 1,
-        },
-    );
-    print::text(b"256 frames, 4,096 events:");
-    print::answer(r, &outcomes);
-    print::text(b"\n");
-    show_sums(&words, &work);
+    guest::put_map(&mut map);
+    guest::put_events(&mut events);
+    show_drawn(&map, &events);
 }

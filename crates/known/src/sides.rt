@@ -1,7 +1,9 @@
 // The sides for G = 6, and a refusal of each number in the list call's own order.
 // A line is the call's last event or its question, the number that the call returns, and whether the lent buffers changed.
-use crate::draw;
 use crate::print;
+use buffers::draw;
+use buffers::print_numbers;
+use listing::Listed;
 use rules::Question;
 
 const MAP: [u64; 6] = [100, 101, 102, 103, 104, 105];
@@ -167,12 +169,26 @@ const FAULTY: [u64; 64] = [
     8, // 11
 ];
 
-fn ask(proc: u64, addr: u64, request: u64) -> Question {
+// An event with every fault; and a good one, then one whose word is out.
+const WRONG: [u64; 4] = [1, 5, LOW_END, 8];
+
+const SECOND: [u64; 8] = [0, 1, 3071, 1, 0, 1, 3072, 1];
+
+// All of the question is wrong at first; then one fault less at each call.
+const LATER: [u64; 9] = [1, LOW_END, 6, 0, LOW_END, 6, 0, 8, 6];
+
+pub fn ask(proc: u64, addr: u64, request: u64) -> Question {
     Question {
         proc: proc,
         addr: addr,
         request: request,
     }
+}
+
+fn show_refusal(r: Listed, words: &[u64], work: &[u8], outcomes: &[u64]) {
+    buffers::print(b":");
+    buffers::print_number(print::refusal_of(r));
+    print::kept(draw::all_hold(words, work, outcomes));
 }
 
 // Calls on buffers full of drawn numbers, so that a change of any element shows.
@@ -185,14 +201,9 @@ fn show_in(
     outcomes: &mut [u64],
     q: Question,
 ) {
-    draw::fill(words, 1);
-    draw::fill_bytes(work, 2);
-    draw::fill(outcomes, 3);
+    draw::fill_all(words, work, outcomes);
     let r = listing::list(map, words, cr3s, events, work, outcomes, q);
-    print::text(b":");
-    print::number(print::refusal_of(r));
-    print::kept(draw::all_hold(words, work, outcomes));
-    print::text(b"\n");
+    show_refusal(r, words, work, outcomes);
 }
 
 fn show_call(map: &[u64], cr3s: &[u64], events: &[u64], q: Question) {
@@ -203,62 +214,61 @@ fn show_call(map: &[u64], cr3s: &[u64], events: &[u64], q: Question) {
 }
 
 fn show_event(e: &[u64]) {
-    print::text(b"event");
-    print::numbers(e);
+    buffers::print(b"event");
+    print_numbers(e);
     show_call(&MAP, &CR3S, e, ask(0, 8, 0));
 }
 
-fn show_events(events: &[u64]) {
+// The event, then one that would be refused with 4, and a question that would be.
+fn show_faulty(e: &[u64]) {
+    let mut events = [0, 0, 0, 0, 1, 1, 0, 0];
+    buffers::copy(&mut events, e);
+    buffers::print(b"faulty event");
+    print_numbers(e);
+    show_call(&MAP, &CR3S, &events, ask(1, 8, 0));
+}
+
+fn show_either(e: &[u64], faulty: bool) {
+    if faulty {
+        show_faulty(e);
+        return;
+    }
+    show_event(e);
+}
+
+fn show_events(events: &[u64], faulty: bool) {
     let n = events.len() / 4;
     let mut k = 0;
     while k < n {
-        show_event(&events[4 * k..4 * k + 4]);
+        show_either(&events[4 * k..4 * k + 4], faulty);
         k += 1;
     }
 }
 
 // The question after events that are all fine.
-fn show_question(q: Question) {
-    print::text(b"question");
-    print::number(q.proc);
-    print::number(q.addr);
-    print::number(q.request);
-    show_call(&MAP, &CR3S, &[0, 1, 0, 1, 0, 7, 0, 0], q);
+fn show_question(q: &[u64]) {
+    buffers::print(b"question");
+    print_numbers(q);
+    show_call(
+        &MAP,
+        &CR3S,
+        &[0, 1, 0, 1, 0, 7, 0, 0],
+        ask(buffers::at(q, 0), buffers::at(q, 1), buffers::at(q, 2)),
+    );
 }
 
 fn show_questions(qs: &[u64]) {
     let n = qs.len() / 3;
     let mut k = 0;
     while k < n {
-        show_question(ask(qs[3 * k], qs[3 * k + 1], qs[3 * k + 2]));
+        show_question(&qs[3 * k..3 * k + 3]);
         k += 1;
     }
 }
 
 pub fn show_sides() {
-    show_events(&EVENTS);
+    show_events(&EVENTS, false);
     show_questions(&QUESTIONS);
-}
-
-// The event, then one that would be refused with 4, and a question that would be.
-fn show_faulty(p: u64, kind: u64, a: u64, b: u64) {
-    print::text(b"faulty event");
-    print::numbers(&[p, kind, a, b]);
-    show_call(&MAP, &CR3S, &[p, kind, a, b, 1, 1, 0, 0], ask(1, 8, 0));
-}
-
-fn show_all_faulty(events: &[u64]) {
-    let n = events.len() / 4;
-    let mut k = 0;
-    while k < n {
-        show_faulty(
-            events[4 * k],
-            events[4 * k + 1],
-            events[4 * k + 2],
-            events[4 * k + 3],
-        );
-        k += 1;
-    }
 }
 
 // Everything is wrong at first; then one fault less at each call.
@@ -266,33 +276,37 @@ fn show_sizes() {
     let mut words = [0u64; 3072];
     let mut work = [0u8; 239];
     let mut outcomes = [0u64; 24];
-    print::text(b"short work, repeated map frame, CR3, event, question");
+    buffers::print(b"short work, repeated map frame, CR3, event, question");
     show_in(
         &REPEATED,
         &mut words,
         &[6],
-        &[1, 5, LOW_END, 8],
+        &WRONG,
         &mut work,
         &mut outcomes,
         ask(1, LOW_END, 6),
     );
 }
 
-pub fn show_refusals() {
+fn show_wrong(label: &[u8], map: &[u64], cr3s: &[u64], events: &[u64]) {
+    buffers::print(label);
+    show_call(map, cr3s, events, ask(1, LOW_END, 6));
+}
+
+fn show_first() {
     show_sizes();
-    print::text(b"repeated map frame, CR3, event, question");
-    show_call(&REPEATED, &[6], &[1, 5, LOW_END, 8], ask(1, LOW_END, 6));
-    print::text(b"CR3, event, question");
-    show_call(&MAP, &[6], &[1, 5, LOW_END, 8], ask(1, LOW_END, 6));
-    show_all_faulty(&FAULTY);
-    print::text(b"second event, question");
-    show_call(
-        &MAP,
-        &CR3S,
-        &[0, 1, 3071, 1, 0, 1, 3072, 1],
-        ask(1, LOW_END, 6),
+    show_wrong(
+        b"repeated map frame, CR3, event, question",
+        &REPEATED,
+        &[6],
+        &WRONG,
     );
-    show_question(ask(1, LOW_END, 6));
-    show_question(ask(0, LOW_END, 6));
-    show_question(ask(0, 8, 6));
+    show_wrong(b"CR3, event, question", &MAP, &[6], &WRONG);
+}
+
+pub fn show_refusals() {
+    show_first();
+    show_events(&FAULTY, true);
+    show_wrong(b"second event, question", &MAP, &CR3S, &SECOND);
+    show_questions(&LATER);
 }

@@ -1,7 +1,9 @@
 // Runs `puzzle::read` on the texts of stdin and prints what it answers.
 // A case is `label=text|`; its line is the label, the result, and a sum of each buffer.
 // Every buffer starts as sevens, so that the sums of a refusal show that nothing was written.
-use libc::STDOUT_FILENO;
+use buffers::print;
+use buffers::print_number;
+use buffers::sum;
 use puzzle::ReadResult;
 ghost use Prim.Native.Nat.{_≤_};
 ghost use lib.ListN.{length};
@@ -20,28 +22,10 @@ fn find(s: &[u8], from: usize, b: u8) -> usize
     i
 }
 
-// Three times the sum so far and the next element, so that each place counts.
-fn sum(xs: &[u64]) -> u64 {
-    let mut total: u64 = 0;
-    let mut i = 0;
-    while i < xs.len() {
-        let twice = std::num::wrapping_add_u64(total, total);
-        let thrice = std::num::wrapping_add_u64(twice, total);
-        total = std::num::wrapping_add_u64(thrice, xs[i]);
-        i += 1;
-    }
-    total
-}
-
-fn print_number(n: u64) {
-    io::write_all(STDOUT_FILENO, b" ");
-    io::print_decimal(STDOUT_FILENO, n);
-}
-
 fn print_result(r: ReadResult) {
     match r {
         ReadResult::Refused(number, line) => {
-            io::write_all(STDOUT_FILENO, b": R");
+            print(b": R");
             print_number(number);
             print_number(line);
         }
@@ -52,7 +36,7 @@ fn print_result(r: ReadResult) {
             events,
             questions,
         } => {
-            io::write_all(STDOUT_FILENO, b": A");
+            print(b": A");
             print_number(frames);
             print_number(processors);
             print_number(words);
@@ -76,9 +60,9 @@ fn show(label: &[u8], text: &[u8]) {
         &mut events,
         &mut questions,
     );
-    io::write_all(STDOUT_FILENO, label);
+    print(label);
     print_result(r);
-    io::write_all(STDOUT_FILENO, b" ;");
+    print(b" ;");
     print_number(sum(&map));
     print_number(sum(&cr3s));
     print_number(sum(&words));
@@ -115,7 +99,7 @@ fn show_short(text: &[u8]) {
         &mut events,
         &mut questions,
     );
-    io::write_all(STDOUT_FILENO, b"\na map of 15");
+    print(b"\na map of 15");
     print_result(r);
 }
 
@@ -126,5 +110,5 @@ fn main() {
     show(b"\n65,536 line feeds", &[10u8; 65536]);
     show(b"\n65,537 line feeds", &[10u8; 65537]);
     show_short(b"x");
-    io::write_all(STDOUT_FILENO, b"\n");
+    print(b"\n");
 }

@@ -7,10 +7,10 @@ use Rattle.machine.proofs.take_lines.Statement.{statement}
 use Rattle.machine.proofs.take_lines.Tie as tie
 
 abbrev Inv-loop : tie.InvT-loop
-Inv-loop s given₀ map₀ words₀ pool₀ records₀ slots₀ at₀ given map words pool records slots at = (at ≤ length s + 1) × (length given ≡ length given₀) × (length map ≡ length map₀) × (length words ≡ length words₀) × (length pool ≡ length pool₀) × (length records ≡ length records₀) × (length slots ≡ length slots₀)
+Inv-loop s state₀ at₀ state at = (at ≤ length s + 1) × (length state ≡ length state₀)
 
 abbrev μ-loop : tie.MeasureT-loop
-μ-loop s given₀ map₀ words₀ pool₀ records₀ slots₀ at₀ given map words pool records slots at = length s + 1 - at
+μ-loop s state₀ at₀ state at = length s + 1 - at
 
 pub take-lines-spec : {M : Type 1} → statement M
 take-lines-spec =
@@ -24,11 +24,6 @@ take-lines-spec =
     (λ c. omega arith)
     (λ c. omega arith)
     (λ c κs. omega arith)
-    (λ c. omega arith)
-    (λ c. omega arith)
-    (λ c. omega arith)
-    (λ c. omega arith)
-    (λ c. omega arith)
     (λ c. omega arith)
     (λ c. omega arith)
     (λ c. omega arith)

@@ -6,10 +6,10 @@ use Rattle.known.proofs.sides.show_events.Statement.{statement}
 use Rattle.known.proofs.sides.show_events.Tie as tie
 
 abbrev Inv-loop : tie.InvT-loop
-Inv-loop events n k₀ k = k ≤ n
+Inv-loop events faulty n k₀ k = k ≤ n
 
 abbrev μ-loop : tie.MeasureT-loop
-μ-loop events n k₀ k = n - k
+μ-loop events faulty n k₀ k = n - k
 
 pub show-events-spec : {M : Type 1} → statement M
 show-events-spec =

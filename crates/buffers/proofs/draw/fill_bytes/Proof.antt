@@ -1,0 +1,29 @@
+-- Safe: every place passed lies inside.
+use Prim.Native.Nat.{_-_}
+use native.Mathlib.Omega.{arith}
+use lib.ListN.{length, length-set}
+use mathlib.Core.Path.{_≡_}
+use Rattle.buffers.proofs.draw.fill_bytes.Statement.{statement}
+use Rattle.buffers.proofs.draw.fill_bytes.Tie as tie
+
+abbrev Inv-loop : tie.InvT-loop
+Inv-loop xs₀ seed x₀ i₀ xs x i = length xs ≡ length xs₀
+
+abbrev μ-loop : tie.MeasureT-loop
+μ-loop xs₀ seed x₀ i₀ xs x i = length xs₀ - i
+
+pub fill-bytes-spec : {M : Type 1} → statement M
+fill-bytes-spec =
+    tie.close
+    (tie.spec
+    Inv-loop
+    μ-loop
+    (λ c. omega arith)
+    (λ c κs. omega arith)
+    (λ c κs. omega arith)
+    (λ c. omega arith)
+    (λ c. omega arith)
+    (λ c. omega arith)
+    (λ c. simp length-set (omega arith))
+    (λ c. omega arith)
+    (λ c. omega arith))
