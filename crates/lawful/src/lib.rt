@@ -119,6 +119,7 @@ fn entry_right(map: &[u64], hints: &[u8], records: &[u64], z: Sizes, t: u64, e: 
     names_lower(records, z, t, e)
 }
 
+// An absent entry is passed over: most are, and a call copies every slice.
 fn entries_right(map: &[u64], hints: &[u8], pool: &[u64], records: &[u64], z: Sizes, t: u64) -> bool
     requires { ⌜ Sized z × (t ≤ 64) × (length (now hints) ≡ 4096) ⌝ }
     ensures { λ r. ⌜ r ≡ all 512 (λ i. entryRight (machine64 z) (now (map .entry)) (now (records .entry)) t (entryOf (machine64 z) (now (pool .entry)) t i)) ⌝ }
@@ -126,10 +127,13 @@ fn entries_right(map: &[u64], hints: &[u8], pool: &[u64], records: &[u64], z: Si
     let mut i = 0;
     while i < 512 {
         let e = tables::entry_at(pool, t, i);
+        i += 1;
+        if e == 0 {
+            continue;
+        }
         if !entry_right(map, hints, records, z, t, e) {
             return false;
         }
-        i += 1;
     }
     true
 }
@@ -232,7 +236,7 @@ fn tables_right(map: &[u64], hints: &[u8], pool: &[u64], records: &[u64], z: Siz
 
 // ---- whole tables
 
-// Whether every entry of table t, of the given level, is whole.
+// Whether every entry of table t, of the given level, is whole; an absent one is.
 fn table_whole(map: &[u64], hints: &[u8], pool: &[u64], z: Sizes, t: u64, level: u64) -> bool
     requires { ⌜ Sized z × (t ≤ 64) × (length (now hints) ≡ 4096) ⌝ }
     ensures { λ r. ⌜ r ≡ tableWhole (machine64 z) (now (map .entry)) (now (pool .entry)) level t ⌝ }
@@ -243,10 +247,13 @@ fn table_whole(map: &[u64], hints: &[u8], pool: &[u64], z: Sizes, t: u64, level:
     let mut i = 0;
     while i < 512 {
         let e = tables::entry_at(pool, t, i);
+        i += 1;
+        if e == 0 {
+            continue;
+        }
         if !entry_whole(map, hints, pool, z, e, level) {
             return false;
         }
-        i += 1;
     }
     true
 }

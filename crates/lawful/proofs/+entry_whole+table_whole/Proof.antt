@@ -1,7 +1,7 @@
 -- A table asks its entries at its own level, and an entry the table that it names one level lower: the measure is twice
 -- the level, and one more for a table. The loop's invariant is `Checked`: the entries below i are whole.
 use Prim.Native.Nat.{ℕ, _+_, _-_, _<_}
-use mathlib.Core.Path.{_≡_, ap, _∙_}
+use mathlib.Core.Path.{_≡_, refl, ap, _∙_}
 use mathlib.Core.Bool.{Bool}
 use native.Mathlib.Omega.{arith}
 use borrow.Author.Tests.{not-true, not-false}
@@ -74,16 +74,21 @@ module _ (m : ℕ) where
       (omega (arith, c .before .before .before .named-by .ensures, c .before .before .table-count .ensures, c .before .if3 .left))
       (c .table-whole .ensures ∙ ap (tableWhole (machine64 (a .z)) (a .map .now) (a .pool .now) (a .level - 1)) (c .before .before .before .named-by .ensures))
 
+  loop-again : table-lts.Need-loop-again table-calls table-at-m table.Post Inv-loop μ-loop
+  loop-again c =
+      let a = c .before .before .before .before .before .before .before .before .args in
+      checked-more (c .before .before .before .loop .inv) (c .before .before .loop-test .taken) (c .before .entry-at .ensures) (entry-absent (a .z) (a .map .now) (a .pool .now) (a .level) _ (c .if2 .taken)) refl
+
   entry-whole-requires : table-lts.Need-entry-whole-requires table-calls table-at-m table.Post Inv-loop μ-loop
-  entry-whole-requires c κs = (omega (arith, c .before .before .before .before .before .before .before .pre .0), (c .before .before .before .before .before .before .before .pre .1 .0, c .before .before .loop .inv .some, c .before .before .before .before .before .before .before .pre .1 .2))
+  entry-whole-requires c κs = (omega (arith, c .before .before .before .before .before .before .before .before .pre .0), (c .before .before .before .before .before .before .before .before .pre .1 .0, c .before .before .before .loop .inv .some, c .before .before .before .before .before .before .before .before .pre .1 .2))
 
   table-returns-2 : table-lts.Need-returns-2 table-calls table-at-m table.Post Inv-loop μ-loop
   table-returns-2 c =
-      table-broken (c .before .before .before .before .loop .inv) (c .before .before .before .loop-test .taken) (c .before .before .entry-at .ensures) (c .before .entry-whole .ensures) (not-true _ (c .if2 .taken))
+      table-broken (c .before .before .before .before .before .loop .inv) (c .before .before .before .before .loop-test .taken) (c .before .before .before .entry-at .ensures) (c .before .entry-whole .ensures) (not-true _ (c .if3 .taken))
 
-  loop-again : table-lts.Need-loop-again table-calls table-at-m table.Post Inv-loop μ-loop
-  loop-again c =
-      checked-more (c .before .before .before .before .loop .inv) (c .before .before .before .loop-test .taken) (c .before .before .entry-at .ensures) (c .before .entry-whole .ensures) (not-false _ (c .if2 .left))
+  loop-again-2 : table-lts.Need-loop-again-2 table-calls table-at-m table.Post Inv-loop μ-loop
+  loop-again-2 c =
+      checked-more (c .before .before .before .before .before .loop .inv) (c .before .before .before .before .loop-test .taken) (c .before .before .before .entry-at .ensures) (c .before .entry-whole .ensures) (not-false _ (c .if3 .left))
 
 pub +entry-whole+table-whole-spec : {M : Type 1} → statement M
 +entry-whole+table-whole-spec =
@@ -102,9 +107,11 @@ pub +entry-whole+table-whole-spec : {M : Type 1} → statement M
     (λ c. let a = c .before .before .before .before .args in table-none (a .z) (a .map .now) (a .pool .now) (a .t) (a .level) (c .if1 .taken))  -- returns
     (λ c. let a = c .before .before .before .before .args in checked-none (a .z) (a .map .now) (a .pool .now) (a .t) (a .level) (positive (a .level) (c .if1 .left)))  -- loop-holds
     (λ c κs. omega (arith, c .before .before .before .before .before .before .pre .1 .1))  -- entry-at-requires
-    (entry-whole-requires m)
-    (table-returns-2 m)
     (λ c. omega arith)  -- add-i
     (λ c. omega arith)  -- loop-less
     (loop-again m)
+    (entry-whole-requires m)
+    (table-returns-2 m)
+    (λ c. omega arith)  -- loop-less-2
+    (loop-again-2 m)
     (λ c. table-whole (c .before .loop .inv) (c .loop-test .left)))  -- returns-3
