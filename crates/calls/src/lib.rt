@@ -25,21 +25,10 @@ pub const SLOTS: usize = 13367;
 
 pub const END: usize = 13487;
 
-fn refusal_of(r: Answer) -> u64 {
-    match r {
-        Answer::Done => 0,
-        Answer::Address(_) => 0,
-        Answer::Fault(_) => 0,
-        Answer::Again => 0,
-        Answer::NoStep => 0,
-        Answer::Refused(n) => n,
-    }
-}
-
 // "refusal, kind, value", and whether all buffers are as they were.
 fn print_answer(r: Answer, kept: bool) {
     print(b":");
-    print_number(refusal_of(r));
+    print_number(shadow::refusal_of(r));
     print_number(shadow::kind_of(r));
     print_number(shadow::value_of(r));
     if kept {

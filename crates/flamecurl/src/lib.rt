@@ -79,51 +79,12 @@ fn put_written(answer: &mut [u64], r: Written) -> u64
     }
 }
 
-fn refusal_of(r: Answer) -> u64
-    ensures { λ n. ⌜ n ≡ shadow.refusalOf r ⌝ }
-{
-    match r {
-        Answer::Done => 0,
-        Answer::Address(_) => 0,
-        Answer::Fault(_) => 0,
-        Answer::Again => 0,
-        Answer::NoStep => 0,
-        Answer::Refused(number) => number,
-    }
-}
-
-fn kind_of(r: Answer) -> u64
-    ensures { λ n. ⌜ n ≡ shadow.kindOf r ⌝ }
-{
-    match r {
-        Answer::Done => 0,
-        Answer::Address(_) => 1,
-        Answer::Fault(_) => 2,
-        Answer::Again => 3,
-        Answer::NoStep => 4,
-        Answer::Refused(_) => 0,
-    }
-}
-
-fn value_of(r: Answer) -> u64
-    ensures { λ n. ⌜ n ≡ shadow.valueOf r ⌝ }
-{
-    match r {
-        Answer::Done => 0,
-        Answer::Address(address) => address,
-        Answer::Fault(code) => code,
-        Answer::Again => 0,
-        Answer::NoStep => 0,
-        Answer::Refused(_) => 0,
-    }
-}
-
 fn put_answer(answer: &mut [u64], r: Answer) -> u64
     requires { ⌜ length (now answer) ≡ 3 ⌝ }
     ensures { λ n. ⌜ (now (answer .exit) ≡ eventNumbers r) × (n ≡ getD (eventNumbers r) 0 0) ⌝ }
 {
-    let number = refusal_of(r);
-    trainer::copy(answer, &[number, kind_of(r), value_of(r)]);
+    let number = shadow::refusal_of(r);
+    trainer::copy(answer, &[number, shadow::kind_of(r), shadow::value_of(r)]);
     number
 }
 
@@ -179,7 +140,7 @@ pub extern "C" fn flamecurl_setup(
         base,
     };
     let r = shadow::setup(map, cr3s, pool, records, slots, z);
-    refusal_of(r)
+    shadow::refusal_of(r)
 }
 
 // One event of the machine. The answer: refusal, kind, value.

@@ -38,28 +38,28 @@ module _ (n : KnownRun) where
   abbrev F : Fresh
   F = n .machine
 
-  abbrev setup? : Bool
-  setup? = eqb (setupRefusal (machineOf F) (F .map) (F .cr3s) (D.begun F)) 0
+  abbrev setupFits : Bool
+  setupFits = eqb (setupRefusal (machineOf F) (F .map) (F .cr3s) (D.begun F)) 0
 
-  abbrev words? : Bool
-  words? = eqb (length (F .words)) (512 * F .sizes .frames)
+  abbrev wordsFit : Bool
+  wordsFit = eqb (length (F .words)) (512 * F .sizes .frames)
 
-  abbrev starts? : ℕ → Bool
-  starts? p = ltb (getD (F .cr3s) p 0) (F .sizes .frames)
+  abbrev startFits : ℕ → Bool
+  startFits p = ltb (getD (F .cr3s) p 0) (F .sizes .frames)
 
-  abbrev event? : ℕ → Bool
-  event? k = eqb (eventRefusal (guestOf F) (eventAt (n .events) k)) 0
+  abbrev eventFits : ℕ → Bool
+  eventFits k = eqb (eventRefusal (guestOf F) (eventAt (n .events) k)) 0
 
-  unfoldable pub fits? : Bool
-  fits? = setup? && words? && all (F .sizes .processors) starts? && all (length (n .events)) event?
+  unfoldable pub runFits : Bool
+  runFits = setupFits && wordsFit && all (F .sizes .processors) startFits && all (length (n .events)) eventFits
 
-  module _ (ok : fits? ≡ true) where
-    passed : (setup? ≡ true) × (words? ≡ true) × (all (F .sizes .processors) starts? ≡ true) × (all (length (n .events)) event? ≡ true)
-    unfolding fits?
+  module _ (ok : runFits ≡ true) where
+    passed : (setupFits ≡ true) × (wordsFit ≡ true) × (all (F .sizes .processors) startFits ≡ true) × (all (length (n .events)) eventFits ≡ true)
+    unfolding runFits
     passed =
-        let (three, events) = both (setup? && words? && all (F .sizes .processors) starts?) (all (length (n .events)) event?) ok in
-        let (two, starts) = both (setup? && words?) (all (F .sizes .processors) starts?) three in
-        let (setup, words) = both setup? words? two in
+        let (three, events) = both (setupFits && wordsFit && all (F .sizes .processors) startFits) (all (length (n .events)) eventFits) ok in
+        let (two, starts) = both (setupFits && wordsFit) (all (F .sizes .processors) startFits) three in
+        let (setup, words) = both setupFits wordsFit two in
         (setup, words, starts, events)
 
     pub known-sized : D.Sized F
@@ -67,8 +67,8 @@ module _ (n : KnownRun) where
 
     pub known-fits : Fit (guestOf F) (runOf n .events)
     known-fits = record {
-      starts = λ p h. ltb-true _ _ (all-at starts? (F .sizes .processors) (passed .2) p h);
-      events = λ k h. eqb-true _ 0 (all-at event? (length (n .events)) (passed .3) k h);
+      starts = λ p h. ltb-true _ _ (all-at startFits (F .sizes .processors) (passed .2) p h);
+      events = λ k h. eqb-true _ 0 (all-at eventFits (length (n .events)) (passed .3) k h);
     }
 
     quick-state : (k : ℕ) → k ≤ length (n .events) → stateAt F (runOf n) k ≡ quickAt n k
@@ -87,12 +87,12 @@ module _ (n : KnownRun) where
     pub known-answers : tab (length (n .events)) (quickAnswer n) ≡ n .answers → tab (length (n .events)) (answerAt F (runOf n)) ≡ n .answers
     known-answers e = tab-same (length (n .events)) (answerAt F (runOf n)) (quickAnswer n) quick-answer ∙ e
 
-stored-fits : fits? stored ≡ true
-unfolding fits? stored setupRefusal refusal eventRefusal all rangesFit lengthsFit framesFit poolFits inPool mapFits cr3sFit rooted each
+stored-fits : runFits stored ≡ true
+unfolding runFits stored setupRefusal refusal eventRefusal all rangesFit lengthsFit framesFit poolFits inPool mapFits cr3sFit rooted each
 stored-fits = refl
 
-narrowed-fits : fits? narrowed ≡ true
-unfolding fits? narrowed setupRefusal refusal eventRefusal all rangesFit lengthsFit framesFit poolFits inPool mapFits cr3sFit rooted each
+narrowed-fits : runFits narrowed ≡ true
+unfolding runFits narrowed setupRefusal refusal eventRefusal all rangesFit lengthsFit framesFit poolFits inPool mapFits cr3sFit rooted each
 narrowed-fits = refl
 
 -- THE KNOWN RUNS

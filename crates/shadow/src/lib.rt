@@ -11,7 +11,7 @@ ghost use Rattle.paging.specs.Layout.{tables64, rightsOf, isPresent};
 ghost use Rattle.paging.specs.Request.{enough};
 ghost use Rattle.paging.specs.Walk.{meet};
 ghost use Rattle.tables.specs.State.{Shadow, shadowOf, State, stateOf, machine64, Sized, Room};
-ghost use Rattle.shadow.specs.After.{kindOf, valueOf, gives, afterStore, leafCleared, afterInvlpg, afterCr3, afterBegin, placeBelow, afterExtend, afterLoss, valueAt, dirtied, fill, afterMiss, afterAccess, decode, moved, rangesFit, lengthsFit, poolFits, inPool, framesFit, callRefusal, after, rooted, setupRefusal, afterSetup};
+ghost use Rattle.shadow.specs.After.{refusalOf, kindOf, valueOf, gives, afterStore, leafCleared, afterInvlpg, afterCr3, afterBegin, placeBelow, afterExtend, afterLoss, valueAt, dirtied, fill, afterMiss, afterAccess, decode, moved, rangesFit, lengthsFit, poolFits, inPool, framesFit, callRefusal, after, rooted, setupRefusal, afterSetup};
 ghost use Rattle.shadow.specs.Ready.{Ready, Standing, Fitting};
 use paging::Guest;
 use paging::Host;
@@ -32,6 +32,19 @@ pub enum Answer {
     Again,
     NoStep,
     Refused(u64),
+}
+
+pub fn refusal_of(a: Answer) -> u64
+    ensures { λ r. ⌜ r ≡ refusalOf a ⌝ }
+{
+    match a {
+        Answer::Done => 0,
+        Answer::Address(_) => 0,
+        Answer::Fault(_) => 0,
+        Answer::Again => 0,
+        Answer::NoStep => 0,
+        Answer::Refused(number) => number,
+    }
 }
 
 pub fn kind_of(a: Answer) -> u64
