@@ -2,15 +2,16 @@
 use mathlib.Core.Path.{_≡_, refl, sym, _∙_, ap, ap₂}
 use mathlib.Core.Bool.{Bool, true, cond, not}
 use mathlib.Core.List.{List}
+use mathlib.Core.Logic.{_⊎_, inl, inr, ⊎-elim}
 use Prim.Native.Nat.{ℕ, _+_, _-_, _*_, _/_, _%_, _^_, _≤_, _<_}
 use native.Mathlib.Nat.{mul-assoc, mul-comm, add-mul-div-right}
 use native.Mathlib.Omega.{arith}
-use native.Mathlib.Decide.{ℕ-discrete}
+use native.Mathlib.Decide.{ℕ-discrete, decLt}
 use lib.Dec.{eqb, ltb, eqb→eq}
 use borrow.Author.Tests.{eq-eqb}
 use lib.Pow.{pow-pos, shr-shr}
-use lib.ListN.{length, getD, set, length-set}
-use lib.Seq.{getD-set-same, getD-set-other}
+use lib.ListN.{length, getD, set, length-set, List·getD-eq-default}
+use lib.Seq.{getD-set-same, getD-set-other, set-out}
 use Rattle.paging.specs.declared.Walk.{Walk}
 use Rattle.paging.specs.declared.Step.{Step}
 use Rattle.paging.specs.declared.Step.the-variants.{On, Absent, Beyond, Complete}
@@ -24,6 +25,10 @@ pub record Alike (e d : ℕ) : Type 0 where
   pub low : e % 32 ≡ d % 32
   pub high : e / 128 ≡ d / 128
 
+-- A is bit 5 and D is bit 6
+abbrev pub Flag : ℕ → Type 0
+Flag k = (k ≡ 5) ⊎ (k ≡ 6)
+
 pub record Sound (Y : Layout) : Type 0 where
   pub some-level : 0 < Y .levels
   -- entries of different frames lie in different words, and all in the words of their frame
@@ -33,6 +38,12 @@ pub record Sound (Y : Layout) : Type 0 where
   pub joined : (i w e : ℕ) → e < 2 ^ Y .entryBits → Y .part i (Y .join i w e) ≡ e
   pub beside : (f i j w e : ℕ) → i < 2 ^ Y .indexBits → j < 2 ^ Y .indexBits → (i ≡ j → ⊥) → Y .place f i ≡ Y .place f j
       → e < 2 ^ Y .entryBits → Y .part j (Y .join i w e) ≡ Y .part j w
+  -- so is an entry in which A or D is set, whatever its word holds
+  pub marked : (k i w : ℕ) → Flag k → Y .part i (Y .join i w (mark k (Y .part i w))) ≡ mark k (Y .part i w)
+  pub marked-beside : (k f i j w : ℕ) → Flag k → i < 2 ^ Y .indexBits → j < 2 ^ Y .indexBits → (i ≡ j → ⊥) → Y .place f i ≡ Y .place f j
+      → Y .part j (Y .join i w (mark k (Y .part i w))) ≡ Y .part j w
+  -- a word that is 0 has no entry but 0
+  pub zero-part : (i : ℕ) → Y .part i 0 ≡ 0
   -- NX is neither A nor D
   pub nx-alike : {e d : ℕ} → Alike e d → Y .nx e ≡ Y .nx d
   -- a composed entry has its frame and its NX; a layout with no NX grants X always
@@ -98,6 +109,9 @@ tables64-sound = record {
   inside = λ f G i hi h. omega arith;
   joined = λ i w e h. refl;
   beside = λ f i j w e hi hj ne same. absurd (ne (omega arith));
+  marked = λ k i w h. refl;
+  marked-beside = λ k f i j w h hi hj ne same. absurd (ne (omega arith));
+  zero-part = λ i. refl;
   nx-alike = λ {e} {d} a. ap (λ (x : ℕ). x % 2) (above-seven e 56 ∙ ap (λ (x : ℕ). x / 2 ^ 56) (a .high) ∙ sym (above-seven d 56));
   composed-frame = λ r d f hd hf. sum-frame (bit r 0) (bit r 1) d f (1 - bit r 2) (bit-small r 0) (bit-small r 1) hd hf (omega arith);
   composed-nx = λ r d f hd hf x. sum-nx (bit r 0) (bit r 1) d f (1 - bit r 2) (bit-small r 0) (bit-small r 1) hd hf (omega arith);
@@ -137,6 +151,11 @@ module _ (Y : Layout) (ok : Sound Y) where
           ∙ ap (Y .part j) (getD-set-same ws (Y .place f i) word 0 h)
           ∙ ok .beside f i j _ e hi hj (ne fg) at-f s
           ∙ ap (λ (k : ℕ). Y .part j (getD ws k 0)) (sym same)
+
+  -- past the words stand zeros
+  pub get-past : (ws : List ℕ) (f i : ℕ) → length ws ≤ Y .place f i → get Y ws f i ≡ 0
+  unfolding get
+  get-past ws f i h = ap (Y .part i) (List·getD-eq-default ws 0 {n = Y .place f i} h) ∙ ok .zero-part i
 
   -- ---- the fields of a composed entry
 
@@ -204,3 +223,57 @@ mark-a-alike e = record { low = low-mark e (1 - bit e 5) 1; high = mark-above e 
 pub mark-d-alike : (e : ℕ) → Alike (mark 6 e) e
 unfolding mark
 mark-d-alike e = record { low = low-mark e (1 - bit e 6) 2; high = mark-above e 6 0 }
+
+pub mark-alike : (k e : ℕ) → Flag k → Alike (mark k e) e
+mark-alike k e (inl a) = rw a (mark-a-alike e)
+mark-alike k e (inr d) = rw d (mark-d-alike e)
+
+pub alike-refl : (e : ℕ) → Alike e e
+alike-refl e = record { low = refl; high = refl }
+
+pub alike-sym : {e d : ℕ} → Alike e d → Alike d e
+alike-sym a = record { low = sym (a .low); high = sym (a .high) }
+
+pub alike-trans : {e d c : ℕ} → Alike e d → Alike d c → Alike e c
+alike-trans a b = record { low = a .low ∙ b .low; high = a .high ∙ b .high }
+
+-- ---- an entry is marked in its word: it reads marked, and every other entry of the words stays
+
+module _ (Y : Layout) (ok : Sound Y) (ws : List ℕ) (k f i : ℕ) (flag : Flag k) (hi : i < 2 ^ Y .indexBits) where
+  abbrev pub withMark : List ℕ
+  withMark = put Y ws f i (mark k (get Y ws f i))
+
+  pub get-mark : Y .place f i < length ws → get Y withMark f i ≡ mark k (get Y ws f i)
+  unfolding get put
+  get-mark h = ap (Y .part i) (getD-set-same ws (Y .place f i) _ 0 h) ∙ ok .marked k i (getD ws (Y .place f i) 0) flag
+
+  pub get-mark-other : (g j : ℕ) → j < 2 ^ Y .indexBits → (f ≡ g → i ≡ j → ⊥) → get Y withMark g j ≡ get Y ws g j
+  unfolding get put
+  get-mark-other g j hj ne = go (ℕ-discrete (Y .place g j) (Y .place f i)) (decLt (Y .place f i) (length ws))
+    where
+      word : ℕ
+      word = Y .join i (getD ws (Y .place f i) 0) (mark k (Y .part i (getD ws (Y .place f i) 0)))
+
+      go : Dec (Y .place g j ≡ Y .place f i) → Dec (Y .place f i < length ws)
+          → Y .part j (getD (set ws (Y .place f i) word) (Y .place g j) 0) ≡ Y .part j (getD ws (Y .place g j) 0)
+      go (no other) d = ap (Y .part j) (getD-set-other ws (Y .place f i) (Y .place g j) word 0 other)
+      go (yes same) (no out) = ap (λ (l : List ℕ). Y .part j (getD l (Y .place g j) 0)) (set-out ws (Y .place f i) word (omega arith))
+      go (yes same) (yes h) =
+          let fg : f ≡ g = ok .apart f g i j hi hj (sym same) in
+          let at-f : Y .place f i ≡ Y .place f j = sym same ∙ ap (λ (x : ℕ). Y .place x j) (sym fg) in
+          ap (λ (k : ℕ). Y .part j (getD (set ws (Y .place f i) word) k 0)) same
+          ∙ ap (Y .part j) (getD-set-same ws (Y .place f i) word 0 h)
+          ∙ ok .marked-beside k f i j (getD ws (Y .place f i) 0) flag hi hj (ne fg) at-f
+          ∙ ap (λ (k : ℕ). Y .part j (getD ws k 0)) (sym same)
+
+  -- SO ALL ENTRIES STAY BUT FOR A AND D
+  pub mark-keeps : (g j : ℕ) → j < 2 ^ Y .indexBits → Alike (get Y withMark g j) (get Y ws g j)
+  mark-keeps g j hj = go (ℕ-discrete f g) (ℕ-discrete i j) (decLt (Y .place f i) (length ws))
+    where
+      go : Dec (f ≡ g) → Dec (i ≡ j) → Dec (Y .place f i < length ws) → Alike (get Y withMark g j) (get Y ws g j)
+      go (no a) d e = rw (get-mark-other g j hj (λ x y. a x)) (alike-refl (get Y ws g j))
+      go (yes a) (no b) e = rw (get-mark-other g j hj (λ x y. b y)) (alike-refl (get Y ws g j))
+      go (yes a) (yes b) (yes h) = rw (← a, ← b) (rw (get-mark h) (mark-alike k (get Y ws f i) flag))
+      go (yes a) (yes b) (no h) =
+          let q : withMark ≡ ws = unfold put in set-out ws (Y .place f i) _ (omega arith) in
+          rw q (alike-refl (get Y ws g j))

@@ -5,6 +5,7 @@ pub mod Bits
 pub mod Rights
 pub mod Indices
 pub mod Layouts
+pub mod Narrow
 pub mod Steps
 pub mod Frames
 pub mod Notes

@@ -52,6 +52,11 @@ enough-meet q a b hn ha hb =
     (at-below 8 (λ n. not (enough (asks n) (meet a b)) || enough (asks n) a)
     (at-below₂ 8 (λ a b. below 8 (λ n. not (enough (asks n) (meet a b)) || enough (asks n) a)) tt a b ha hb) (q .needs) hn)
 
+-- what a request needs is small, whatever the layout
+pub needs-small : (Y : Layout) (n : ℕ) → n < 6 → requestOf Y n .needs < 8
+unfolding requestOf
+needs-small Y n h = ltb→lt _ 8 (at-below 6 (λ n. ltb (requestOf Y n .needs) 8) tt n h)
+
 -- what a request needs and adds is small
 pub request-small : (n : ℕ) → n < 6 → (requestOf tables64 n .needs < 8) × (requestOf tables64 n .adds ≤ 20)
 unfolding requestOf
