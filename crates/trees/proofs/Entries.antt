@@ -1,37 +1,57 @@
 -- The 64-bit machine is able; what one store into an entry or a record does to all of them; and what an entry names.
 use mathlib.Core.Path.{_≡_, refl, sym, ap, _∙_}
 use mathlib.Core.Bool.{true}
-use Prim.Native.Nat.{ℕ, _+_, _-_, _*_, _^_, _<_}
+use Prim.Native.Nat.{ℕ, _+_, _-_, _*_, _/_, _%_, _^_, _<_}
 use native.Mathlib.Omega.{arith}
-use lib.ListN.{set, length-set, List·getD-eq-default}
+use lib.ListN.{set, length-set}
 use lib.Dec.{ltb}
 use lib.Seq.{getD-set-same, getD-set-other}
 use borrow.Author.Tests.{ltb-true}
 use Rattle.paging.specs.declared.Guest.{Guest}
-use Rattle.paging.specs.Layout.{frameWords, bit, get, frameOf, rightsOf, compose, isPresent}
+use Rattle.paging.specs.Layout.{tables64, bit, frameOf, rightsOf, compose, isPresent}
 use Rattle.paging.proofs.Layouts.{tables64-sound, length-put, get-put, get-put-other, composed-present, composed-rights}
+use Rattle.paging.proofs.Narrow.{tables32, tables32-sound}
 use Rattle.paging.proofs.Tests.{both}
 use Rattle.tables.specs.declared.Sizes.{Sizes}
 use Rattle.tables.specs.State.{Machine, Shadow, onPool, onRecords, machine64, withRecord, tableCount, entryCount, withEntry, named, Sized}
 use Rattle.tables.proofs.Names.{named-absent, named-on}
 use Rattle.lawful.specs.Rules.{isMadeWith, isBranch}
-use Rattle.trees.proofs.Trees.{Able, Exact, ent, lev, shd, Names}
+use Rattle.trees.proofs.Trees.{Laid, Able, able, Exact, ent, lev, shd, Names}
 
 -- ---- the 64-bit machine is able
 
 small : (a b d f x : ℕ) → a < 2 → b < 2 → d < 2 → f < 2 ^ 40 → x < 2 → 1 + 2 * a + 4 * b + 32 + 64 * d + 2 ^ 12 * f + x * 2 ^ 63 < 2 ^ 64
 small a b d f x ha hb hd hf hx = omega arith
 
-pub able64 : (z : Sizes) → Sized z → Able (machine64 z)
-unfolding compose get
-able64 z ok = record {
+pub laid64 : Laid tables64
+unfolding compose
+laid64 = record {
   sound = tables64-sound;
   upper = omega arith;
-  some = ok .some;
-  room = ok .pool;
   fits = λ r d f hr hd hf. small (bit r 0) (bit r 1) d f (1 - bit r 2) (omega arith) (omega arith) hd hf (omega arith);
   grants = λ e q. absurd (omega (arith, q));
-  past = λ pool e t i h. List·getD-eq-default pool 0 {n = frameWords * t + i} (omega arith);
+  past = λ t i n h. omega arith;
+}
+
+pub able64 : (z : Sizes) → Sized z → Able (machine64 z)
+able64 z ok = able (machine64 z) laid64 (ok .some) (ok .pool)
+
+-- ---- so is one with 32-bit tables
+
+small32 : (a b d f x : ℕ) → a < 2 → b < 2 → d < 2 → f < 2 ^ 20 → 1 + 2 * a + 4 * b + 32 + 64 * d + 2 ^ 12 * f + x * 0 < 2 ^ 32
+small32 a b d f x ha hb hd hf = omega arith
+
+x-granted : (a b : ℕ) → (a % 2 + 2 * (b % 2) + 4 * (1 - 0)) / 2 ^ 2 % 2 ≡ 1
+x-granted a b = omega arith
+
+pub laid32 : Laid tables32
+unfolding compose rightsOf
+laid32 = record {
+  sound = tables32-sound;
+  upper = omega arith;
+  fits = λ r d f hr hd hf. small32 (bit r 0) (bit r 1) d f (1 - bit r 2) (omega arith) (omega arith) hd hf;
+  grants = λ e q. x-granted (e / 2 ^ 1) (e / 2 ^ 2);
+  past = λ t i n h. omega arith;
 }
 
 -- ---- stores
