@@ -76,7 +76,7 @@ module _ (text : List ℕ) {z : Puzzle} {at : ℕ} (e : puzzleIn text ≡ got z 
   unfolding zeros
   sized =
       let ok = starts text e .taken (replicate (2048 * P) 0) (replicate (8 * P) 0) (replicate (24 * P) 0) (length-replicate (2048 * P) 0) (length-replicate (8 * P) 0) (length-replicate (24 * P) 0) in
-      let shown = accepted-sizes sizes (z .map) (z .cr3s) zeros ok in
+      let shown = accepted-sizes (machine64 sizes) (z .map) (z .cr3s) zeros ok in
       setup-sized sizes (z .map) (z .cr3s) zeros (shown .0) (shown .1)
 
   abbrev s : State

@@ -67,7 +67,7 @@ pub event-keeps : (z : Sizes) (map : List ℕ) (s : State) (e : Event) → callR
 event-keeps = keeps.event-keeps
 
 pub never-twelve : (z : Sizes) (map : List ℕ) (s : State) (e : Event) → callRefusal (machine64 z) map s e < 12
-never-twelve = shadow.never-twelve
+never-twelve z = shadow.never-twelve (machine64 z)
 
 -- "the put right after an again answers an address", from every state that the event call takes
 pub again-address : (z : Sizes) (map : List ℕ) (s : State) (e : Event) → callRefusal (machine64 z) map s e ≡ 0 → after (machine64 z) map s e .answer ≡ Again
@@ -103,11 +103,11 @@ read-unique = puzzle.read-unique
 
 pub setup-unique : (z : Sizes) (map cr3s : List ℕ) (s : State) (r r′ : Answer) (t t′ : State)
     → gives r t ≡ afterSetup (machine64 z) map cr3s s → gives r′ t′ ≡ afterSetup (machine64 z) map cr3s s → (r ≡ r′) × (t ≡ t′)
-setup-unique = shadow.setup-unique
+setup-unique z = shadow.setup-unique (machine64 z)
 
 pub event-unique : (z : Sizes) (map : List ℕ) (s : State) (e : Event) (r r′ : Answer) (t t′ : State)
     → gives r t ≡ after (machine64 z) map s e → gives r′ t′ ≡ after (machine64 z) map s e → (r ≡ r′) × (t ≡ t′)
-event-unique = shadow.event-unique
+event-unique z = shadow.event-unique (machine64 z)
 
 pub answers-unique : (text before : List ℕ) (r s : Written) (x y : List ℕ) → AnswersCall text before r x → AnswersCall text before s y → (r ≡ s) × (x ≡ y)
 answers-unique = trainer.one-answers

@@ -7,7 +7,7 @@ use native.Mathlib.Decide.{ℕ-discrete}
 use lib.ListN.{length, getD}
 use Rattle.rules.specs.declared.Event.{Event}
 use Rattle.tables.specs.declared.Sizes.{Sizes}
-use Rattle.tables.specs.State.{State}
+use Rattle.tables.specs.State.{State, machine64}
 use Rattle.listing.specs.declared.Listed.{Listed}
 use Rattle.listing.specs.Call.{Asked, Lent, ListCall}
 use Rattle.listing.proofs.Theorems as listing
@@ -47,7 +47,7 @@ list-unique q before x y answer l k n m = same-exports (λ (r : Listed) (x : Len
 
 pub event-unique : (z : Sizes) (map : List ℕ) (e : Event) (before x y : State) (answer l k : List ℕ) (n m : ℕ)
     → EventExport z map e before x answer n l → EventExport z map e before y answer m k → (n ≡ m) × (x ≡ y) × (l ≡ k)
-event-unique z map e before x y answer l k n m = same-exports _ (λ r s. shadow.event-unique z map before e r s)
+event-unique z map e before x y answer l k n m = same-exports _ (λ r s. shadow.event-unique (machine64 z) map before e r s)
 
 pub read-unique : (text : List ℕ) (before x y : Buffers) (answer l k : List ℕ) (n m : ℕ)
     → ReadExport text before x answer n l → ReadExport text before y answer m k → (n ≡ m) × (x ≡ y) × (l ≡ k)
@@ -66,5 +66,5 @@ run-unique text before x y answer l k n m = same-exports _ (trainer.one-run text
 pub setup-unique : (z : Sizes) (map cr3s : List ℕ) (before x y : State) (n m : ℕ)
     → SetupExport z map cr3s before n x → SetupExport z map cr3s before m y → (n ≡ m) × (x ≡ y)
 setup-unique z map cr3s before x y n m a b =
-    let (e, f) = shadow.setup-unique z map cr3s before (a .result) (b .result) x y (a .call) (b .call) in
+    let (e, f) = shadow.setup-unique (machine64 z) map cr3s before (a .result) (b .result) x y (a .call) (b .call) in
     (a .first ∙ ap specs.refusalOf e ∙ sym (b .first), f)

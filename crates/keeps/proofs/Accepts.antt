@@ -24,7 +24,7 @@ pub same-tests : (z : Sizes) (s : State) (words cr3s : List ℕ) (e : Event) →
 unfolding eventRefusal
 same-tests z s words cr3s e = refl
 
-ranges : (z : Sizes) → Ranged z → rangesFit (machine64 z) ≡ true
+ranges : (z : Sizes) → Ranged (machine64 z) → rangesFit (machine64 z) ≡ true
 unfolding rangesFit
 ranges z h =
     simp (
@@ -36,7 +36,7 @@ ranges z h =
       le-leb (z .share) 16 (h .share .1),
     )
 
-module _ (z : Sizes) (map : List ℕ) (s : State) (ranged : Ranged z) (sized : Sized z) (fits : Mapped z map) (frames : framesFit (machine64 z) map ≡ true)
+module _ (z : Sizes) (map : List ℕ) (s : State) (ranged : Ranged (machine64 z)) (sized : Sized z) (fits : Mapped z map) (frames : framesFit (machine64 z) map ≡ true)
     (r : Right z map s) (words : length (s .words) ≡ frameWords * z .frames) where
   lengths : lengthsFit (machine64 z) map (s .shadow) (s .slots) ≡ true
   unfolding lengthsFit
@@ -54,5 +54,5 @@ module _ (z : Sizes) (map : List ℕ) (s : State) (ranged : Ranged z) (sized : S
 
   pub accepts : (e : Event) → eventRefusal (asSetup (machine64 z) s) e ≡ 0 → callRefusal (machine64 z) map s e ≡ 0
   accepts e fit =
-      sym (call-accepted z map s e {w = true} (sym (eq-eqb (length (s .words)) (frameWords * z .frames) words)) early
+      sym (call-accepted (machine64 z) map s e {w = true} (sym (eq-eqb (length (s .words)) (frameWords * z .frames) words)) early
       (lawful-is (machine64 z) (able64 z sized) map (fits .outside) s (r .law .trees .exact) .1 (r .law)) (sym fit) (omega (arith, ranged .share)))

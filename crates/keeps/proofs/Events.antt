@@ -55,13 +55,13 @@ module _ (z : Sizes) (map : List ℕ) (s : State) (e : Event) where
 
   module _ (ok : callRefusal (machine64 z) map s e ≡ 0) where
     pub accepted-mapped : Mapped z map
-    accepted-mapped = mapped z map (accepted-exact z map s e ok .guests) (accepted-frames z map s e ok)
+    accepted-mapped = mapped z map (accepted-exact (machine64 z) map s e ok .guests) (accepted-frames (machine64 z) map s e ok)
 
     pub accepted-right : Right z map s
     accepted-right =
-        let x = accepted-exact z map s e ok in
+        let x = accepted-exact (machine64 z) map s e ok in
         record {
-          law = lawful-is (machine64 z) (able64 z (accepted-sized z map s e ok)) map (accepted-mapped .outside) s (record { words = x .words; pairs = x .pairs }) .0 (accepted-lawful z map s e ok);
+          law = lawful-is (machine64 z) (able64 z (accepted-sized z map s e ok)) map (accepted-mapped .outside) s (record { words = x .words; pairs = x .pairs }) .0 (accepted-lawful (machine64 z) map s e ok);
           triples = x .triples;
         }
 
@@ -76,7 +76,7 @@ module _ (z : Sizes) (map : List ℕ) (s : State) (e : Event) where
         go : Dec (e .kind ≡ 1) → Dec (e .kind ≡ 2) → Dec (e .kind ≡ 3) → Dec (e .kind ≡ 4) → Dec (e .kind ≡ 5) → Dec (e .kind ≡ 6) → Kind (after (machine64 z) map s e)
         go (yes q) b c d f g = store q (fitting z map s e ok .stores q) (taken ∙ sym (moved-store (machine64 z) map s e q))
         go (no a) (yes q) c d f g = invlpg q (taken ∙ sym (moved-invlpg (machine64 z) map s e q))
-        go (no a) (no b) (yes q) d f g = cr3 q (accepted-cr3 z map s e ok (eq-eqb (e .kind) 3 q)) (taken ∙ sym (moved-cr3 (machine64 z) map s e q))
+        go (no a) (no b) (yes q) d f g = cr3 q (accepted-cr3 (machine64 z) map s e ok (eq-eqb (e .kind) 3 q)) (taken ∙ sym (moved-cr3 (machine64 z) map s e q))
         go (no a) (no b) (no c) (yes q) f g = access q (fitting z map s e ok .requests q) (taken ∙ sym (moved-access (machine64 z) map s e q))
         go (no a) (no b) (no c) (no d) (yes q) g = begin q (fitting z map s e ok .begins q) (taken ∙ sym (moved-begin (machine64 z) map s e q))
         go (no a) (no b) (no c) (no d) (no f) (yes q) = extend q (fitting z map s e ok .extends q) (taken ∙ sym (moved-extend (machine64 z) map s e q))

@@ -14,7 +14,7 @@ use Rattle.tables.specs.State.{Machine, State, stateOf, machine64, slotCount, m
 use Rattle.tables.specs.Steps.{Settled, settle, build, freeCount, emptyShare, flush, emptySlots}
 use Rattle.tables.proofs.Counts.{by-cases}
 use Rattle.shadow.specs.After.{fill}
-use Rattle.shadow.proofs.Shares.{three-free}
+use Rattle.shadow.proofs.Shares.{enough-free}
 use Rattle.trees.proofs.Trees.{Able}
 use Rattle.trees.proofs.Settles.{Leads}
 use Rattle.trees.proofs.Builds.{Built, filled, refilled}
@@ -60,7 +60,7 @@ module _ (z : Sizes) (ok : Sized z) (spare : 4 ≤ z .share) (map : List ℕ) (f
   emptied-share : Fills (stateOf (s .words) (build M map (s .words) p page 3 (rootOf M p) cr3 (emptyShare M p (d .shadow))) (flush p page (emptySlots p (s .slots))))
   emptied-share = record {
     built = refilled M ready map (fits .outside) (s .words) p hp page last f x (fits .within) (fits .guests) paged cr3 leads (s .shadow) (r .law .trees)
-        (three-free z ok spare p hp (d .shadow));
+        (enough-free (machine64 z) (ok .some) spare p hp (d .shadow));
     words = refl;
     beside = λ q ne k hk. same-on (emptySlots-other p (s .slots) q k hk ne) (flush-others p page (emptySlots p (s .slots)) q k hk ne);
     own = λ k hk. inl (by-cases (flush-here p page (emptySlots p (s .slots)) k hk (omega (arith, emptySlots-length p (s .slots))))

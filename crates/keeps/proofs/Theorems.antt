@@ -38,13 +38,13 @@ module _ (z : Sizes) (map : List ℕ) (s : State) (e : Event) (ok : callRefusal 
   fits = accepted-mapped z map s e ok
 
   abbrev hp : e .proc < z .processors
-  hp = accepted-own z map s e ok
+  hp = accepted-own (machine64 z) map s e ok
 
   abbrev r : Right z map s
   r = accepted-right z map s e ok
 
   spare : 4 ≤ z .share
-  spare = accepted-ranged z map s e ok .share .0
+  spare = accepted-ranged (machine64 z) map s e ok .share .0
 
   -- by kind
   keeps : {out : Result} → Kind z map s e out → Right z map (out .state)
@@ -77,12 +77,12 @@ module _ (z : Sizes) (map : List ℕ) (s : State) (e : Event) (ok : callRefusal 
   event-keeps = lawful-is (machine64 z) (able64 z sized) map (fits .outside) s′ (right-after .law .trees .exact) .1 (right-after .law)
 
   pub words-after : length (s′ .words) ≡ frameWords * z .frames
-  words-after = sizes (kinds z map s e ok) ∙ accepted-words z map s e ok
+  words-after = sizes (kinds z map s e ok) ∙ accepted-words (machine64 z) map s e ok
 
   -- SO NO LATER CALL IS REFUSED BUT FOR ITS OWN EVENT
   pub next-accepted : (e′ : Event) → eventRefusal (asSetup (machine64 z) s) e′ ≡ 0 → callRefusal (machine64 z) map s′ e′ ≡ 0
   next-accepted e′ h =
-      accepts z map s′ (accepted-ranged z map s e ok) sized fits (accepted-frames z map s e ok) right-after words-after e′
+      accepts z map s′ (accepted-ranged (machine64 z) map s e ok) sized fits (accepted-frames (machine64 z) map s e ok) right-after words-after e′
       (sym (same-tests z s′ (s .words) [] e′) ∙ same-tests z s (s .words) [] e′ ∙ h)
 
   -- only an access is to be put again, and it leaves a path that serves it
@@ -121,7 +121,7 @@ pub again-address : (z : Sizes) (map : List ℕ) (s : State) (e : Event) → cal
     → (v : ℕ) × (after (machine64 z) map (after (machine64 z) map s e .state) e .answer ≡ Address v)
 again-address z map s e ok g =
     let sv = again-serves z map s e ok g in
-    served-address z map (after (machine64 z) map s e .state) e (next-accepted z map s e ok e (accepted-event z map s e ok)) (sv .0) (sv .1)
+    served-address z map (after (machine64 z) map s e .state) e (next-accepted z map s e ok e (accepted-event (machine64 z) map s e ok)) (sv .0) (sv .1)
 
 -- AN ACCEPTED CALL ANSWERS NO REFUSAL
 pub never-refused : (z : Sizes) (map : List ℕ) (s : State) (e : Event) → callRefusal (machine64 z) map s e ≡ 0 → (n : ℕ) → after (machine64 z) map s e .answer ≡ Refused n → ⊥

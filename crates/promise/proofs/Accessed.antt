@@ -19,7 +19,7 @@ use Rattle.rules.proofs.Theorems.{view-lawful}
 use Rattle.tables.specs.declared.Sizes.{Sizes}
 use Rattle.tables.specs.declared.Walked.{Walked}
 use Rattle.tables.specs.declared.Walked.the-variants.{Whole}
-use Rattle.tables.specs.State.{Machine, State, slotCount, pageIn, rootOf, Sized}
+use Rattle.tables.specs.State.{machine64, Machine, State, slotCount, pageIn, rootOf, Sized}
 use Rattle.tables.proofs.Counts.{by-cases}
 use Rattle.shadow.specs.After.{Result, fill, afterAccess, callRefusal}
 use Rattle.shadow.proofs.Accepted.{accepted-ranged}
@@ -104,7 +104,7 @@ module _ (F : Fresh) (es : List Event) (k : ℕ) (s : State) (h : Holds F es k s
     maps = fits F es k s h ok
 
     pub spare : 4 ≤ z .share
-    spare = accepted-ranged z map s e ok .share .0
+    spare = accepted-ranged (machine64 z) map s e ok .share .0
 
     two : e .kind ≡ 2 → ⊥
     two x = omega arith

@@ -49,10 +49,10 @@ module _ (z : Sizes) (map : List ℕ) (s : State) (e : Event) (ok : callRefusal 
   right = accepted-right z map s e ok
 
   by : e .proc < z .processors
-  by = accepted-own z map s e ok
+  by = accepted-own (machine64 z) map s e ok
 
   spare : 4 ≤ z .share
-  spare = accepted-ranged z map s e ok .share .0
+  spare = accepted-ranged (machine64 z) map s e ok .share .0
 
   -- another processor's work on its own tables
   apart : (s′ : State) → Trees M map (s′ .shadow) → (e .proc ≡ p → ⊥)

@@ -11,7 +11,7 @@ use Rattle.paging.specs.Layout.{tables64, frameWords, pageOf}
 use Rattle.rules.specs.declared.Event.{Event}
 use Rattle.rules.specs.History.{eventAt, wordsAt, cr3At}
 use Rattle.tables.specs.declared.Sizes.{Sizes}
-use Rattle.tables.specs.State.{Machine, Shadow, State, stateOf, slotCount, markOf, pageIn, rootOf, nextEntry, pathTo, Sized}
+use Rattle.tables.specs.State.{machine64, Machine, Shadow, State, stateOf, slotCount, markOf, pageIn, rootOf, nextEntry, pathTo, Sized}
 use Rattle.tables.specs.Steps.{emptySlots}
 use Rattle.tables.proofs.Counts.{by-cases}
 use Rattle.shadow.specs.After.{callRefusal, afterStore, afterInvlpg, afterCr3, afterBegin, afterLoss}
@@ -51,7 +51,7 @@ module _ (F : Fresh) (es : List Event) (k : ℕ) (s : State) (h : Holds F es k s
   fits = accepted-mapped z map s e ok
 
   pub hp : p < z .processors
-  hp = accepted-own z map s e ok
+  hp = accepted-own (machine64 z) map s e ok
 
   abbrev pub After : State → Type 0
   After s′ = Right z map s′ → length (s′ .words) ≡ frameWords * z .frames → Holds F es (suc k) s′

@@ -15,7 +15,7 @@ use Rattle.rules.specs.declared.Event.{Event}
 use Rattle.rules.specs.History.{eventAt}
 use Rattle.rules.specs.View.{View}
 use Rattle.tables.specs.declared.Sizes.{Sizes}
-use Rattle.tables.specs.State.{Machine, State, stateOf, markOf, pageIn, placeIn, rightsIn, withSlot, nextEntry, pathTo, Sized}
+use Rattle.tables.specs.State.{machine64, Machine, State, stateOf, markOf, pageIn, placeIn, rightsIn, withSlot, nextEntry, pathTo, Sized}
 use Rattle.tables.proofs.Counts.{by-cases}
 use Rattle.shadow.specs.After.{afterExtend, callRefusal}
 use Rattle.shadow.proofs.Accepted.{accepted-map}
@@ -97,7 +97,7 @@ module _ (F : Fresh) (es : List Event) (k : ℕ) (s : State) (h : Holds F es k s
         let q : originOf map (host (frameOf tables64 (entryAt 1))) ≡ Of (guest (m .place)) =
         subst (λ (l : ℕ). originOf map (host (frameOf tables64 (entryAt l))) ≡ Of (guest (m .place))) last o in
         let d : originOf map (hostOf map (b .frame)) ≡ Of (b .frame) =
-        origin-host map (fits-distinct (2 ^ 40) map (accepted-map z map s e ok)) (b .frame) (rw (maps .guests) (b .inside)) in
+        origin-host map (fits-distinct (2 ^ 40) map (accepted-map (machine64 z) map s e ok)) (b .frame) (rw (maps .guests) (b .inside)) in
         let x : Of (guest (m .place)) ≡ Of (b .frame) = sym q ∙ ap (λ (f : ℕ). originOf map (host f)) (b .mapped) ∙ d in
         cc
 

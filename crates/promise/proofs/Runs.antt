@@ -7,7 +7,7 @@ use lib.Dec.{eqb}
 use lib.ListN.{length}
 use Rattle.rules.specs.History.{Fit, eventAt, wordsAt, cr3At}
 use Rattle.tables.specs.declared.Sizes.{Sizes}
-use Rattle.tables.specs.State.{Machine, State, Sized}
+use Rattle.tables.specs.State.{machine64, Machine, State, Sized}
 use Rattle.shadow.specs.After.{rangesFit, lengthsFit, framesFit, callRefusal}
 use Rattle.paging.proofs.Tests.{both}
 use Rattle.shadow.proofs.Sizing.{Ranged, ranged}
@@ -40,16 +40,16 @@ module _ (F : Fresh) (fresh : D.Sized F) where
   cr3s? = eqb (length (F .cr3s)) (z .processors)
 
   shown : ((rangesFit M && lengths? && cr3s?) ≡ true) × (framesFit M (F .map) ≡ true)
-  shown = accepted-sizes z (F .map) (F .cr3s) (D.begun F) (fresh .setup)
+  shown = accepted-sizes (machine64 z) (F .map) (F .cr3s) (D.begun F) (fresh .setup)
 
   pub sized : Sized z
   sized = setup-sized z (F .map) (F .cr3s) (D.begun F) (shown .0) (shown .1)
 
-  pub ranges : Ranged z
-  ranges = ranged z (both (rangesFit M) lengths? (both (rangesFit M && lengths?) cr3s? (shown .0) .0) .0)
+  pub ranges : Ranged (machine64 z)
+  ranges = ranged (machine64 z) (both (rangesFit M) lengths? (both (rangesFit M && lengths?) cr3s? (shown .0) .0) .0)
 
   pub fits : Mapped z (F .map)
-  fits = mapped z (F .map) (setup-exact z (F .map) (F .cr3s) (D.begun F) (shown .0) (shown .1) .guests) (shown .1)
+  fits = mapped z (F .map) (setup-exact (machine64 z) (F .map) (F .cr3s) (D.begun F) (shown .0) (shown .1) .guests) (shown .1)
 
   module _ (r : Run) (fit : Fit (guestOf F) (r .events)) where
     abbrev At : ℕ → State → Type 0

@@ -65,7 +65,7 @@ module _ (F : Fresh) (fresh : D.Sized F) (r : Run) (fit : Fit (guestOf F) (r .ev
   h = holds-before F fresh r fit k (omega arith)
 
   hp : p < z .processors
-  hp = accepted-own z (F .map) s e (accepted F fresh r fit k hk)
+  hp = accepted-own (machine64 z) (F .map) s e (accepted F fresh r fit k hk)
 
   -- what p sees of this page
   abbrev view : View

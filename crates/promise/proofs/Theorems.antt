@@ -35,7 +35,7 @@ module _ (F : Fresh) (fresh : D.Sized F) (r : Run) (fit : Fit (guestOf F) (r .ev
   At s = Serves (F .sizes) s (e .proc) (pageOf tables64 (e .a)) (requestOf tables64 (e .b))
 
   hp : e .proc < F .sizes .processors
-  hp = accepted-own (F .sizes) (F .map) (before F r k) e (accepted F fresh r fit k hk)
+  hp = accepted-own (machine64 (F .sizes)) (F .map) (before F r k) e (accepted F fresh r fit k hk)
 
   -- a slot that is lost changes no path
   before-serves : (m : ℕ) → At (stateAt F r m) → At (before F r m)

@@ -14,11 +14,10 @@ use Rattle.paging.specs.Walk.{meet}
 use Rattle.paging.proofs.Finite.{at-below}
 use Rattle.paging.proofs.Tests.{and-l, and-r}
 use Rattle.paging.proofs.Rights.{meet-small}
-use Rattle.tables.specs.declared.Sizes.{Sizes}
 use Rattle.tables.specs.declared.Path.{Path}
-use Rattle.tables.specs.State.{Machine, State, machine64, placeIn, tableCount, entryOf, top, down, nextEntry, descend, pathTo, Sized}
+use Rattle.tables.specs.State.{Machine, State, placeIn, tableCount, rootOf, entryOf, top, down, nextEntry, descend, pathTo}
 use Rattle.tables.specs.Steps.{servingSlot}
-use Rattle.tables.proofs.Names.{named-small, root-small}
+use Rattle.tables.proofs.Names.{named-small}
 use Rattle.shadow.specs.declared.Answer.the-variants.{Address}
 use Rattle.shadow.specs.After.{Result, gives, valueAt, afterMiss, afterAccess}
 
@@ -52,10 +51,10 @@ descend-range M pool page (suc n) l w on =
     (record { level = omega (arith, on .level); table = named-small M e; rights = meet-small (w .rights) (rightsOf (M .tables) e) }) in
     record { level = omega (arith, r .level); table = r .table; rights = r .rights }
 
-pub path-range : (z : Sizes) → Sized z → (pool : List ℕ) (p page l : ℕ) → p < z .processors → l ≤ 4 → OnPath (machine64 z) l (pathTo (machine64 z) pool p page l)
-path-range z ok pool p page l h hl =
-    let r = descend-range (machine64 z) pool page (4 - l) 4 (top (machine64 z) p)
-    (record { level = refl; table = omega (arith, root-small ok p h); rights = omega arith }) in
+pub path-range : (M : Machine) (pool : List ℕ) (p page l : ℕ) → rootOf M p ≤ tableCount M → l ≤ M .tables .levels → OnPath M l (pathTo M pool p page l)
+path-range M pool p page l h hl =
+    let r = descend-range M pool page (M .tables .levels - l) (M .tables .levels) (top M p)
+    (record { level = refl; table = h; rights = omega arith }) in
     record { level = omega (arith, r .level); table = r .table; rights = r .rights }
 
 module _ (M : Machine) (map : List ℕ) (p a r : ℕ) (s : State) where

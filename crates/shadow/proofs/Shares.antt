@@ -1,9 +1,9 @@
--- A share that was emptied has three free tables: those after its root.
+-- A share that was emptied has a free table for each level below the root: those after its root.
 use mathlib.Core.Path.{_≡_, sym, ap, ap₂, _∙_}
 use mathlib.Core.Bool.{Bool, true, false, cond, _&&_}
 use mathlib.Core.List.{List}
 use mathlib.Core.Logic.{⊎-elim}
-use Prim.Native.Nat.{ℕ, zero, suc, _+_, _*_, _/_, _<_, _≤_}
+use Prim.Native.Nat.{ℕ, zero, suc, _+_, _-_, _*_, _/_, _<_, _≤_}
 use native.Mathlib.Nat.{eq-or-lt-of-le, div-eq-of-lt-le, mul-le-mul-right, add-mul, one-mul}
 use native.Mathlib.Decide.{ℕ-discrete}
 use native.Mathlib.Omega.{arith}
@@ -14,8 +14,7 @@ use borrow.Author.Tests.{eq-eqb, ne-eqb}
 use Rattle.paging.specs.Frame.{guest}
 use Rattle.paging.specs.Numbers.{sum, count, each}
 use Rattle.paging.proofs.Numbers.{set-zero}
-use Rattle.tables.specs.declared.Sizes.{Sizes}
-use Rattle.tables.specs.State.{Machine, Shadow, onPool, onRecords, machine64, levelOf, withRecord, tableCount, ownerOf, rootOf, owns, Sized}
+use Rattle.tables.specs.State.{Machine, Shadow, onPool, onRecords, levelOf, withRecord, tableCount, ownerOf, rootOf, owns}
 use Rattle.tables.specs.Steps.{zeroed, mayTake, freeCount, emptyOwn, emptyShare}
 use Rattle.tables.proofs.Takes.{level-other}
 
@@ -63,24 +62,24 @@ module _ (M : Machine) (p t : ℕ) (own : owns M p t ≡ true) (below : eqb t (r
       go (yes q) more = ap (λ (k : ℕ). levelOf (emptyOwn M p k (each n (emptyOwn M p) s) .records) t) (sym q) ∙ own-turn (each n (emptyOwn M p) s)
       go (no ne) more = other-turn n (each n (emptyOwn M p) s) ne (more (omega (arith, ne)))
 
-module _ (z : Sizes) (ok : Sized z) (spare : 4 ≤ z .share) (p : ℕ) (h : p < z .processors) where
+module _ (M : Machine) (some : 0 < M .share) (spare : M .tables .levels ≤ M .share) (p : ℕ) (h : p < M .processors) where
   -- a share lies within the pool
-  share-within : rootOf (machine64 z) p + z .share ≤ tableCount (machine64 z)
-  share-within = let l = mul-le-mul-right (z .share) h in omega (arith, add-mul p 1 (z .share), one-mul (z .share))
+  share-within : rootOf M p + M .share ≤ tableCount M
+  share-within = let l = mul-le-mul-right (M .share) h in omega (arith, add-mul p 1 (M .share), one-mul (M .share))
 
   -- the tables after the root are p's
-  after-root : (k : ℕ) → rootOf (machine64 z) p + 1 ≤ k → k < rootOf (machine64 z) p + 1 + 3 → ownerOf (machine64 z) k ≡ p
-  after-root k lo hi = div-eq-of-lt-le (z .share) (omega arith) (omega (arith, add-mul p 1 (z .share), one-mul (z .share)))
+  after-root : (k : ℕ) → rootOf M p + 1 ≤ k → k < rootOf M p + 1 + (M .tables .levels - 1) → ownerOf M k ≡ p
+  after-root k lo hi = div-eq-of-lt-le (M .share) (omega arith) (omega (arith, add-mul p 1 (M .share), one-mul (M .share)))
 
-  -- AFTER EMPTYING, THREE TABLES ARE FREE
-  pub three-free : (s : Shadow) → 3 ≤ freeCount (machine64 z) p (emptyShare (machine64 z) p s .records)
+  -- AFTER EMPTYING, AS MANY TABLES ARE FREE AS LIE BELOW THE ROOT
+  pub enough-free : (s : Shadow) → M .tables .levels - 1 ≤ freeCount M p (emptyShare M p s .records)
   unfolding freeCount emptyShare
-  three-free s =
-      count-run (mayTake (machine64 z) p (each (tableCount (machine64 z)) (emptyOwn (machine64 z) p) s .records)) (rootOf (machine64 z) p + 1) (tableCount (machine64 z)) 3 (omega (arith, share-within)) may
+  enough-free s =
+      count-run (mayTake M p (each (tableCount M) (emptyOwn M p) s .records)) (rootOf M p + 1) (tableCount M) (M .tables .levels - 1) (omega (arith, share-within)) may
     where
-      may : (k : ℕ) → rootOf (machine64 z) p + 1 ≤ k → k < rootOf (machine64 z) p + 1 + 3 → mayTake (machine64 z) p (each (tableCount (machine64 z)) (emptyOwn (machine64 z) p) s .records) k ≡ true
+      may : (k : ℕ) → rootOf M p + 1 ≤ k → k < rootOf M p + 1 + (M .tables .levels - 1) → mayTake M p (each (tableCount M) (emptyOwn M p) s .records) k ≡ true
       may k lo hi =
-          let own = eq-eqb (ownerOf (machine64 z) k) p (after-root k lo hi) in
-          let below = ne-eqb k (rootOf (machine64 z) p) (λ q. omega arith) in
-          let free = emptied-level (machine64 z) p k own below (tableCount (machine64 z)) s (omega (arith, share-within)) in
+          let own = eq-eqb (ownerOf M k) p (after-root k lo hi) in
+          let below = ne-eqb k (rootOf M p) (λ q. omega arith) in
+          let free = emptied-level M p k own below (tableCount M) s (omega (arith, share-within)) in
           simp (own, eq-eqb _ 0 free)

@@ -16,61 +16,65 @@ use Rattle.paging.specs.Numbers.{all, isBetween}
 use Rattle.paging.proofs.Tests.{both}
 use Rattle.paging.proofs.Numbers.{all-at, between}
 use Rattle.tables.specs.declared.Sizes.{Sizes}
-use Rattle.tables.specs.State.{Shadow, machine64, tableCount, Sized}
+use Rattle.tables.specs.State.{Machine, Shadow, machine64, tableCount, Sized}
 use Rattle.shadow.specs.After.{rangesFit, lengthsFit, poolFits, inPool, framesFit}
 
-pub record Ranged (z : Sizes) : Type 0 where
-  pub frames : (1 ≤ z .frames) × (z .frames ≤ 256)
-  pub processors : (1 ≤ z .processors) × (z .processors ≤ 4)
-  pub share : (4 ≤ z .share) × (z .share ≤ 16)
+pub record Ranged (M : Machine) : Type 0 where
+  pub frames : (1 ≤ M .frames) × (M .frames ≤ 256)
+  pub processors : (1 ≤ M .processors) × (M .processors ≤ 4)
+  pub share : (M .tables .levels ≤ M .share) × (M .share ≤ 16)
 
-module _ (z : Sizes) where
-  pub ranged : rangesFit (machine64 z) ≡ true → Ranged z
+module _ (M : Machine) where
+  pub ranged : rangesFit M ≡ true → Ranged M
   unfolding rangesFit
   ranged e =
-      let h = both (isBetween 1 256 (z .frames) && isBetween 1 4 (z .processors)) (isBetween 4 16 (z .share)) e in
-      let k = both (isBetween 1 256 (z .frames)) (isBetween 1 4 (z .processors)) (h .0) in
+      let h = both (isBetween 1 256 (M .frames) && isBetween 1 4 (M .processors)) (isBetween (M .tables .levels) 16 (M .share)) e in
+      let k = both (isBetween 1 256 (M .frames)) (isBetween 1 4 (M .processors)) (h .0) in
       record {
-        frames = between 1 256 (z .frames) (k .0);
-        processors = between 1 4 (z .processors) (k .1);
-        share = between 4 16 (z .share) (h .1);
+        frames = between 1 256 (M .frames) (k .0);
+        processors = between 1 4 (M .processors) (k .1);
+        share = between (M .tables .levels) 16 (M .share) (h .1);
       }
 
-  pub ranged-few : Ranged z → z .processors * z .share ≤ 64
+  pub ranged-few : Ranged M → M .processors * M .share ≤ 64
   ranged-few h = mul-le-mul (h .processors .1) (h .share .1)
-
-  pub sized : Ranged z → poolFits (machine64 z) ≡ true → Sized z
-  unfolding poolFits
-  sized h e = record {
-    frames = h .frames .1;
-    processors = h .processors .1;
-    some = omega (arith, h .share);
-    share = h .share .1;
-    pool = leb-true (z .base + z .processors * z .share) (2 ^ 40) e;
-  }
 
   -- the exact lengths
   pub record Exact (map : List ℕ) (s : Shadow) (slots : List ℕ) : Type 0 where
-    pub guests : length map ≡ z .frames
-    pub words : length (s .pool) ≡ frameWords * tableCount (machine64 z)
-    pub pairs : length (s .records) ≡ 2 * tableCount (machine64 z)
-    pub triples : length slots ≡ 24 * z .processors
+    pub guests : length map ≡ M .frames
+    pub words : length (s .pool) ≡ frameWords * tableCount M
+    pub pairs : length (s .records) ≡ 2 * tableCount M
+    pub triples : length slots ≡ 24 * M .processors
 
-  pub exact : (map : List ℕ) (s : Shadow) (slots : List ℕ) → lengthsFit (machine64 z) map s slots ≡ true → Exact map s slots
+  pub exact : (map : List ℕ) (s : Shadow) (slots : List ℕ) → lengthsFit M map s slots ≡ true → Exact map s slots
   unfolding lengthsFit
   exact map s slots e =
-      let a = eqb (length map) (z .frames) in
-      let b = eqb (length (s .pool)) (frameWords * tableCount (machine64 z)) in
-      let c = eqb (length (s .records)) (2 * tableCount (machine64 z)) in
-      let h = both (a && b && c) (eqb (length slots) (24 * z .processors)) e in
+      let a = eqb (length map) (M .frames) in
+      let b = eqb (length (s .pool)) (frameWords * tableCount M) in
+      let c = eqb (length (s .records)) (2 * tableCount M) in
+      let h = both (a && b && c) (eqb (length slots) (24 * M .processors)) e in
       let k = both (a && b) c (h .0) in
       let l = both a b (k .0) in
       record {
-        guests = eqb-true (length map) (z .frames) (l .0);
-        words = eqb-true (length (s .pool)) (frameWords * tableCount (machine64 z)) (l .1);
-        pairs = eqb-true (length (s .records)) (2 * tableCount (machine64 z)) (k .1);
-        triples = eqb-true (length slots) (24 * z .processors) (h .1);
+        guests = eqb-true (length map) (M .frames) (l .0);
+        words = eqb-true (length (s .pool)) (frameWords * tableCount M) (l .1);
+        pairs = eqb-true (length (s .records)) (2 * tableCount M) (k .1);
+        triples = eqb-true (length slots) (24 * M .processors) (h .1);
       }
+
+  pub pool-room : poolFits M ≡ true → M .base + tableCount M ≤ 2 ^ M .tables .frameBits
+  unfolding poolFits
+  pool-room e = leb-true (M .base + tableCount M) (2 ^ M .tables .frameBits) e
+
+-- the sizes that the functions ask for
+pub sized : (z : Sizes) → Ranged (machine64 z) → poolFits (machine64 z) ≡ true → Sized z
+sized z h e = record {
+  frames = h .frames .1;
+  processors = h .processors .1;
+  some = omega (arith, h .share);
+  share = h .share .1;
+  pool = pool-room (machine64 z) e;
+}
 
 -- every frame of a map that fits is below the limit; past its end stands 0
 pub hosts-below : (limit : ℕ) → 0 < limit → (map : List ℕ) → mapFits limit map ≡ true → (i : ℕ) → getD map i 0 < limit

@@ -12,8 +12,7 @@ use Rattle.paging.specs.Layout.{frameWords}
 use Rattle.rules.specs.declared.Event.{Event}
 use Rattle.rules.specs.Refusal.{Test, test, refusal}
 use Rattle.rules.specs.History.{eventTests}
-use Rattle.tables.specs.declared.Sizes.{Sizes}
-use Rattle.tables.specs.State.{State, stateOf, machine64}
+use Rattle.tables.specs.State.{Machine, State, stateOf}
 use Rattle.lawful.specs.Rules.{lawful}
 use Rattle.shadow.specs.declared.Answer.{Answer}
 use Rattle.shadow.specs.After.{Result, gives, after, afterSetup, afterStore, asSetup, rangesFit, lengthsFit, framesFit, tooFew, callRefusal}
@@ -21,13 +20,13 @@ use Rattle.shadow.proofs.Sizing.{Ranged, ranged}
 
 -- ---- ANY TWO RESULTS THAT A PROMISE ALLOWS ARE EQUAL
 
-pub event-unique : (z : Sizes) (map : List ℕ) (s : State) (e : Event) (r r′ : Answer) (t t′ : State)
-    → gives r t ≡ after (machine64 z) map s e → gives r′ t′ ≡ after (machine64 z) map s e → (r ≡ r′) × (t ≡ t′)
-event-unique z map s e r r′ t t′ p q = (ap (λ (x : Result). x .answer) (p ∙ sym q), ap (λ (x : Result). x .state) (p ∙ sym q))
+pub event-unique : (M : Machine) (map : List ℕ) (s : State) (e : Event) (r r′ : Answer) (t t′ : State)
+    → gives r t ≡ after M map s e → gives r′ t′ ≡ after M map s e → (r ≡ r′) × (t ≡ t′)
+event-unique M map s e r r′ t t′ p q = (ap (λ (x : Result). x .answer) (p ∙ sym q), ap (λ (x : Result). x .state) (p ∙ sym q))
 
-pub setup-unique : (z : Sizes) (map cr3s : List ℕ) (s : State) (r r′ : Answer) (t t′ : State)
-    → gives r t ≡ afterSetup (machine64 z) map cr3s s → gives r′ t′ ≡ afterSetup (machine64 z) map cr3s s → (r ≡ r′) × (t ≡ t′)
-setup-unique z map cr3s s r r′ t t′ p q = (ap (λ (x : Result). x .answer) (p ∙ sym q), ap (λ (x : Result). x .state) (p ∙ sym q))
+pub setup-unique : (M : Machine) (map cr3s : List ℕ) (s : State) (r r′ : Answer) (t t′ : State)
+    → gives r t ≡ afterSetup M map cr3s s → gives r′ t′ ≡ afterSetup M map cr3s s → (r ≡ r′) × (t ≡ t′)
+setup-unique M map cr3s s r r′ t t′ p q = (ap (λ (x : Result). x .answer) (p ∙ sym q), ap (λ (x : Result). x .state) (p ∙ sym q))
 
 -- ---- NUMBER 12 IS NEVER MET
 
@@ -46,28 +45,28 @@ below-twelve (t ∷ ts) h = go (t .met) refl (h .0) (below-twelve ts (h .1))
     go true q (inr n) r = let z : true ≡ false = sym q ∙ n in let z : _≡_ {A = ℕ} 0 1 = cc in absurd (omega arith)
     go false q s r = r
 
-pub never-twelve : (z : Sizes) (map : List ℕ) (s : State) (e : Event) → callRefusal (machine64 z) map s e < 12
+pub never-twelve : (M : Machine) (map : List ℕ) (s : State) (e : Event) → callRefusal M map s e < 12
 unfolding callRefusal
-never-twelve z map s e = go (rangesFit (machine64 z)) refl
+never-twelve M map s e = go (rangesFit M) refl
   where
-    few : Ranged z → tooFew (machine64 z) ≡ false
-    few h = le-ltb (z .share - 1) 3 (omega (arith, h .share))
+    few : Ranged M → tooFew M ≡ false
+    few h = le-ltb (M .share - 1) (M .tables .levels - 1) (omega (arith, h .share))
 
-    go : (b : Bool) → rangesFit (machine64 z) ≡ b
-        → refusal (test 1 (not (b && lengthsFit (machine64 z) map (s .shadow) (s .slots) && eqb (length (s .words)) (frameWords * z .frames)))
-        ∷ test 2 (not (framesFit (machine64 z) map)) ∷ test 3 (not (lawful (machine64 z) map s))
-        ∷ eventTests (asSetup (machine64 z) s) e ++ (test 12 (tooFew (machine64 z)) ∷ [])) < 12
+    go : (b : Bool) → rangesFit M ≡ b
+        → refusal (test 1 (not (b && lengthsFit M map (s .shadow) (s .slots) && eqb (length (s .words)) (frameWords * M .frames)))
+        ∷ test 2 (not (framesFit M map)) ∷ test 3 (not (lawful M map s))
+        ∷ eventTests (asSetup M s) e ++ (test 12 (tooFew M) ∷ [])) < 12
     go false q = unfold refusal in omega arith
     go true q =
         below-twelve _
-        (inl (omega arith), (inl (omega arith), (inl (omega arith), (inl (omega arith), (inl (omega arith), (inl (omega arith), (inl (omega arith), (inl (omega arith), (inl (omega arith), (inl (omega arith), (inr (few (ranged z q)), tt)))))))))))
+        (inl (omega arith), (inl (omega arith), (inl (omega arith), (inl (omega arith), (inl (omega arith), (inl (omega arith), (inl (omega arith), (inl (omega arith), (inl (omega arith), (inl (omega arith), (inr (few (ranged M q)), tt)))))))))))
 
 -- ---- A REFUSAL CHANGES NOTHING, AND A STORE BREAKS NO STATE RULE
 
-pub refusal-keeps : (z : Sizes) (map : List ℕ) (s : State) (e : Event) → (callRefusal (machine64 z) map s e ≡ 0 → ⊥) → after (machine64 z) map s e .state ≡ s
+pub refusal-keeps : (M : Machine) (map : List ℕ) (s : State) (e : Event) → (callRefusal M map s e ≡ 0 → ⊥) → after M map s e .state ≡ s
 unfolding after
-refusal-keeps z map s e some = simp (ne-eqb (callRefusal (machine64 z) map s e) 0 some)
+refusal-keeps M map s e some = simp (ne-eqb (callRefusal M map s e) 0 some)
 
-pub store-keeps : (z : Sizes) (map : List ℕ) (s : State) (a b : ℕ) → lawful (machine64 z) map s ≡ true → lawful (machine64 z) map (afterStore a b s .state) ≡ true
+pub store-keeps : (M : Machine) (map : List ℕ) (s : State) (a b : ℕ) → lawful M map s ≡ true → lawful M map (afterStore a b s .state) ≡ true
 unfolding lawful
-store-keeps z map s a b h = h
+store-keeps M map s a b h = h

@@ -219,9 +219,9 @@ module _ (M : Machine) where
 
   -- ---- refusals
 
-  -- "1: a length, G, P, S … outside Sizes": "G 1..256, P 1..4, S 4..16"
+  -- "1: a length, G, P, S … outside Sizes": "G 1..256, P 1..4, S 4..16": a share has a table for each level
   unfoldable pub rangesFit : Bool
-  rangesFit = isBetween 1 256 (M .frames) && isBetween 1 4 (M .processors) && isBetween 4 16 (M .share)
+  rangesFit = isBetween 1 256 (M .frames) && isBetween 1 4 (M .processors) && isBetween (M .tables .levels) 16 (M .share)
 
   -- "Exact lengths: map G, …, pool 512×P×S, table records 2×P×S, slots 24×P"
   unfoldable pub lengthsFit : List ℕ → Shadow → List ℕ → Bool

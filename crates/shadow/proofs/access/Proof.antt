@@ -11,7 +11,7 @@ use Rattle.paging.specs.Layout.{tables64, index}
 use Rattle.paging.proofs.Indices.{index-small}
 use Rattle.tables.specs.declared.Path.{Path}
 use Rattle.tables.specs.State.{shadowOf, stateOf, machine64}
-use Rattle.tables.proofs.Names.{few, frame-small}
+use Rattle.tables.proofs.Names.{few, root-small, frame-small}
 use Rattle.shadow.specs.After.{valueAt}
 use Rattle.shadow.specs.Ready.{Ready}
 use Rattle.shadow.proofs.Accesses.{needs-small, adds-small, OnPath, path-range, access-slot, access-path, access-miss}
@@ -27,7 +27,7 @@ adds-of c = omega (arith, ap (λ (q : Request). q .adds) (c .request-of .ensures
 on-path : (c : tie.After-path-to) → OnPath (machine64 (c .before .before .before .before .before .before .before .before .before .before .before .before .args .z)) 1 (c .path-to .result)
 on-path c =
     let a = c .before .before .before .before .before .before .before .before .before .before .before .before .args in
-    rw (c .path-to .ensures) (path-range (a .z) (c .before .before .before .before .before .before .before .before .before .before .before .before .pre .0 .sized) (a .pool .now) (a .p) (c .before .before .before .before .before .before .page-of .result) 1 (c .before .before .before .before .before .before .before .before .before .before .before .before .pre .0 .own) (omega arith))
+    rw (c .path-to .ensures) (path-range (machine64 (a .z)) (a .pool .now) (a .p) (c .before .before .before .before .before .before .page-of .result) 1 (omega (arith, root-small (c .before .before .before .before .before .before .before .before .before .before .before .before .pre .0 .sized) (a .p) (c .before .before .before .before .before .before .before .before .before .before .before .before .pre .0 .own))) (omega arith))
 
 index-is : (c : tie.After-index-of) → c .index-of .result ≡ index tables64 (c .before .before .before .before .before .before .before .before .page-of .result) (c .before .before .path-to .result .level)
 index-is c = c .index-of .ensures ∙ ap (index tables64 (c .before .before .before .before .before .before .before .before .page-of .result)) (sym (on-path (c .before .before) .level))

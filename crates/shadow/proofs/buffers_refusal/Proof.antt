@@ -9,8 +9,8 @@ use Rattle.shadow.proofs.Sizing.{Ranged, ranged, ranged-few, sized}
 use Rattle.shadow.proofs.buffers_refusal.Statement.{statement}
 use Rattle.shadow.proofs.buffers_refusal.Tie as tie
 
-in-range : (c : tie.After-ranges-fit) → c .ranges-fit .result ≡ true → Ranged (c .before .before .before .before .before .args .z)
-in-range c q = ranged (c .before .before .before .before .before .args .z) (sym (c .ranges-fit .ensures) ∙ q)
+in-range : (c : tie.After-ranges-fit) → c .ranges-fit .result ≡ true → Ranged (machine64 (c .before .before .before .before .before .args .z))
+in-range c q = ranged (machine64 (c .before .before .before .before .before .args .z)) (sym (c .ranges-fit .ensures) ∙ q)
 
 returns : tie.Need-returns
 unfolding refusal
@@ -76,10 +76,10 @@ buffers-refusal-spec =
     (tie.spec
     (λ c κs. tt)
     returns
-    (λ c κs. let h = in-range (c .before) (not-false _ (c .if1 .left)) in (h .processors .1, ranged-few (c .before .before .before .before .before .before .args .z) h))
+    (λ c κs. let h = in-range (c .before) (not-false _ (c .if1 .left)) in (h .processors .1, ranged-few (machine64 (c .before .before .before .before .before .before .args .z)) h))
     returns-2
     returns-3
-    (λ c κs. ranged-few (c .before .before .before .before .before .before .before .before .before .args .z) (in-range (c .before .before .before .before) (not-false _ (c .before .before .before .if1 .left))))
+    (λ c κs. ranged-few (machine64 (c .before .before .before .before .before .before .before .before .before .args .z)) (in-range (c .before .before .before .before) (not-false _ (c .before .before .before .if1 .left))))
     returns-4
     (λ c κs. tt)
     returns-5

@@ -7,7 +7,7 @@ use Rattle.tables.specs.State.{Shadow, shadowOf, stateOf, machine64, tableCount
 use Rattle.tables.specs.Steps.{Settled, spot, freeCount}
 use Rattle.tables.proofs.Names.{few, root-small}
 use Rattle.shadow.specs.Ready.{Ready}
-use Rattle.shadow.proofs.Shares.{three-free}
+use Rattle.shadow.proofs.Shares.{enough-free}
 use Rattle.shadow.proofs.Filling.{fill-emptied, fill-built, settled-spot}
 use Rattle.shadow.proofs.fill.Statement.{statement}
 use Rattle.shadow.proofs.fill.Tie as tie
@@ -50,7 +50,7 @@ three c =
     omega (
       arith,
       ap (λ (h : Shadow). freeCount M (a .p) (h .records)) (c .empty-share .ensures),
-      three-free (a .z) (ready .sized) (ready .spare) (a .p) (ready .own) (shadowOf (c .before .before .before .before .before .before .before .before .before .before .before .settle .last .1 .0) (c .before .before .before .before .before .before .before .before .before .before .before .settle .last .1 .1 .0)),
+      enough-free (machine64 (a .z)) (ready .sized .some) (ready .spare) (a .p) (ready .own) (shadowOf (c .before .before .before .before .before .before .before .before .before .before .before .settle .last .1 .0) (c .before .before .before .before .before .before .before .before .before .before .before .settle .last .1 .1 .0)),
     )
 
 build-path-requires : tie.Need-build-path-requires

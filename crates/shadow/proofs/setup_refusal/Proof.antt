@@ -2,7 +2,7 @@
 use mathlib.Core.Path.{_≡_, sym, _∙_}
 use mathlib.Core.List.{[]}
 use borrow.Author.Tests.{not-true, not-false}
-use Rattle.tables.specs.State.{State, shadowOf, stateOf}
+use Rattle.tables.specs.State.{State, shadowOf, stateOf, machine64}
 use Rattle.shadow.proofs.Starting.{setup-early, setup-seven, setup-none}
 use Rattle.shadow.proofs.setup_refusal.Statement.{statement}
 use Rattle.shadow.proofs.setup_refusal.Tie as tie
@@ -15,7 +15,7 @@ setup-refusal-spec =
     tie.close
     (tie.spec
     (λ c κs. tt)
-    (λ c. let a = c .before .before .before .before .before .before .before .before .args in setup-early (a .z) (a .map .now) (a .cr3s .now) (entry (c .before .before .before .before .before .before .before .before)) (c .before .buffers-refusal .ensures) (c .if1 .taken))
+    (λ c. let a = c .before .before .before .before .before .before .before .before .args in setup-early (machine64 (a .z)) (a .map .now) (a .cr3s .now) (entry (c .before .before .before .before .before .before .before .before)) (c .before .buffers-refusal .ensures) (c .if1 .taken))
     (λ c κs. tt)
-    (λ c. let a = c .before .before .before .before .before .before .before .before .before .before .args in setup-seven (a .z) (a .map .now) (a .cr3s .now) (entry (c .before .before .before .before .before .before .before .before .before .before)) (sym (c .before .before .if1 .left) ∙ c .before .before .before .buffers-refusal .ensures) (sym (c .before .cr3s-fit .ensures) ∙ not-true _ (c .if2 .taken)))
-    (λ c. let a = c .before .before .before .before .before .before .before .before .before .before .args in setup-none (a .z) (a .map .now) (a .cr3s .now) (entry (c .before .before .before .before .before .before .before .before .before .before)) (sym (c .before .before .if1 .left) ∙ c .before .before .before .buffers-refusal .ensures) (sym (c .before .cr3s-fit .ensures) ∙ not-false _ (c .if2 .left))))
+    (λ c. let a = c .before .before .before .before .before .before .before .before .before .before .args in setup-seven (machine64 (a .z)) (a .map .now) (a .cr3s .now) (entry (c .before .before .before .before .before .before .before .before .before .before)) (sym (c .before .before .if1 .left) ∙ c .before .before .before .buffers-refusal .ensures) (sym (c .before .cr3s-fit .ensures) ∙ not-true _ (c .if2 .taken)))
+    (λ c. let a = c .before .before .before .before .before .before .before .before .before .before .args in setup-none (machine64 (a .z)) (a .map .now) (a .cr3s .now) (entry (c .before .before .before .before .before .before .before .before .before .before)) (sym (c .before .before .if1 .left) ∙ c .before .before .before .buffers-refusal .ensures) (sym (c .before .cr3s-fit .ensures) ∙ not-false _ (c .if2 .left))))
