@@ -26,7 +26,7 @@ use Rattle.promise.proofs.Begun.{begun-trees, begun-triples}
 
 -- the machine of a puzzle, and the run of its events
 abbrev pub machineFor : Puzzle → Fresh
-machineFor z = record { sizes = sizesOf (z .map) (z .cr3s); map = z .map; words = wordsOf z; cr3s = z .cr3s }
+machineFor z = record { machine = machine64 (sizesOf (z .map) (z .cr3s)); map = z .map; words = wordsOf z; cr3s = z .cr3s }
 
 abbrev pub runFor : Puzzle → Run
 runFor z = record { events = eventsOf (z .events); lost = λ k p j. false }

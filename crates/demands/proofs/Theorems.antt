@@ -9,6 +9,7 @@ use native.Mathlib.Omega.{arith}
 use lib.Dec.{T, eqb}
 use lib.ListN.{length}
 use borrow.Author.Tests.{ne-eqb}
+use Rattle.paging.specs.Layout.{tables64}
 use Rattle.rules.specs.declared.Event.{Event}
 use Rattle.rules.specs.declared.Question.{Question}
 use Rattle.rules.specs.declared.Outcome.{Outcome}
@@ -26,6 +27,7 @@ use Rattle.shadow.specs.declared.Answer.the-variants.{Address, Again, Refused}
 use Rattle.shadow.specs.After.{gives, callRefusal, after, setupRefusal, afterSetup, started}
 use Rattle.shadow.specs.Runs.{answerOf}
 use Rattle.shadow.proofs.Theorems as shadow
+use Rattle.trees.proofs.Entries.{laid64}
 use Rattle.keeps.proofs.Theorems as keeps
 use Rattle.sections.specs.Sections.{Got, got, Puzzle}
 use Rattle.puzzle.specs.Buffers.{Buffers, After, readCall, wordsOf}
@@ -64,7 +66,7 @@ list-right q before r x c = c .listed
 
 -- "every accepted event keeps the state rules", so that no later call is refused with 3
 pub event-keeps : (z : Sizes) (map : List ℕ) (s : State) (e : Event) → callRefusal (machine64 z) map s e ≡ 0 → lawful (machine64 z) map (after (machine64 z) map s e .state) ≡ true
-event-keeps = keeps.event-keeps
+event-keeps z map s e = keeps.event-keeps (machine64 z) map s e laid64
 
 pub never-twelve : (z : Sizes) (map : List ℕ) (s : State) (e : Event) → callRefusal (machine64 z) map s e < 12
 never-twelve z = shadow.never-twelve (machine64 z)
@@ -72,26 +74,26 @@ never-twelve z = shadow.never-twelve (machine64 z)
 -- "the put right after an again answers an address", from every state that the event call takes
 pub again-address : (z : Sizes) (map : List ℕ) (s : State) (e : Event) → callRefusal (machine64 z) map s e ≡ 0 → after (machine64 z) map s e .answer ≡ Again
     → (v : ℕ) × (after (machine64 z) map (after (machine64 z) map s e .state) e .answer ≡ Address v)
-again-address = keeps.again-address
+again-address z map s e = keeps.again-address (machine64 z) map s e laid64
 
 -- ---- DEMAND 3: "From a fresh machine, after any accepted events, an access put at most twice ends in an address or a guest
 -- fault that stands in the list for the events before that put."
 
-pub every-event-taken : Accepts
-every-event-taken = promise.every-event-taken
+pub every-event-taken : Accepts tables64
+every-event-taken = promise.every-event-taken tables64 laid64
 
-pub demand-three : Demand
-demand-three = promise.demand-three
+pub demand-three : Demand tables64
+demand-three = promise.demand-three tables64 laid64
 
 -- ---- and of the program `run`: no event of an accepted text is refused, and what it prints of each access meets demand 3
 
 module _ (text : List ℕ) {z : Puzzle} {at : ℕ} (e : puzzleIn text ≡ got z at) where
   pub run-takes : (k : ℕ) → k < length (eventsOf (z .events)) → (n : ℕ)
       → answerOf (machine64 (sizesOf (z .map) (z .cr3s))) (z .map) (started (machine64 (sizesOf (z .map) (z .cr3s))) (z .cr3s) (wordsOf z)) (eventsOf (z .events)) k ≡ Refused n → ⊥
-  run-takes k h n r = every-event-taken (machineFor z) (run-sized text e) (runFor z) (trainer.fits text e) k h n (same-answer z k ∙ r)
+  run-takes k h n r = every-event-taken (machineFor z) refl (run-sized text e) (runFor z) (trainer.fits text e) k h n (same-answer z k ∙ r)
 
   pub run-settles : (k : ℕ) → k < length (eventsOf (z .events)) → T (isAccess (eventAt (eventsOf (z .events)) k)) → SettlesInTwo (machineFor z) (runFor z) k
-  run-settles = demand-three (machineFor z) (run-sized text e) (runFor z) (trainer.fits text e)
+  run-settles = demand-three (machineFor z) refl (run-sized text e) (runFor z) (trainer.fits text e)
 
 -- ---- ONE POSSIBLE ANSWER: any two results that a promise allows are equal, the answer and every buffer, refused or not
 

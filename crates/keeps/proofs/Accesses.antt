@@ -2,6 +2,7 @@
 use mathlib.Core.Path.{_≡_, refl}
 use mathlib.Core.Bool.{Bool, true, false, cond, _&&_}
 use mathlib.Core.List.{List}
+use mathlib.Core.Logic.{inr}
 use Prim.Native.Nat.{ℕ, _+_, _≤_, _<_}
 use lib.Dec.{ltb}
 use borrow.Author.Tests.{ltb-true}
@@ -9,48 +10,47 @@ use Rattle.paging.specs.declared.Guest.{Guest}
 use Rattle.paging.specs.declared.Walk.{Walk}
 use Rattle.paging.specs.declared.Request.{Request}
 use Rattle.paging.specs.Frame.{guest, host, hostOf}
-use Rattle.paging.specs.Layout.{tables64, index, pageOf, frameOf, rightsOf, isPresent, get, put, markD}
+use Rattle.paging.specs.Layout.{Layout, index, pageOf, frameOf, rightsOf, isPresent, get, put, markD}
 use Rattle.paging.specs.Request.{requestOf, enough}
 use Rattle.paging.specs.Walk.{meet, start}
-use Rattle.tables.specs.declared.Sizes.{Sizes}
+use Rattle.paging.proofs.Layouts.{Sound}
+use Rattle.paging.proofs.Indices.{index-small}
 use Rattle.tables.specs.declared.Path.{Path}
 use Rattle.tables.specs.declared.Walked.{Walked}
 use Rattle.tables.specs.declared.Walked.the-variants.{Whole, Fault}
-use Rattle.tables.specs.State.{Machine, State, stateOf, machine64, slotCount, placeIn, shadows, rootOf, nextEntry, pathTo, Sized}
+use Rattle.tables.specs.State.{Machine, State, stateOf, slotCount, placeIn, shadows, rootOf, nextEntry, pathTo}
 use Rattle.tables.specs.Steps.{Trod, walkGuest, slotServes, servingSlot}
 use Rattle.shadow.specs.declared.Answer.the-variants.{Address, Fault as Faulted, Again}
 use Rattle.shadow.specs.After.{Result, gives, valueAt, isWrite, dirtied, fill, afterAccess, afterMiss, afterWalk}
 use Rattle.trees.proofs.Counts.{first-passes}
+use Rattle.trees.proofs.Trees.{Able}
 use Rattle.trees.proofs.Settles.{Leads}
-use Rattle.keeps.proofs.Alikes.{Same, same-refl, same-sym, same-trans, same-mark-d}
+use Rattle.keeps.proofs.Alikes.{Same, same-refl, same-sym, same-trans, same-mark}
 use Rattle.keeps.proofs.Treads.{treads}
 use Rattle.keeps.proofs.Right.{Mapped, Right, Reshaped, words-right, reshaped-right}
 use Rattle.keeps.proofs.Moves.{page-small}
 use Rattle.keeps.proofs.Filled.{Fills, fills, fill-reshapes}
 
 -- D changes nothing but D
-pub dirtied-same : (q : Request) (page : ℕ) (last : Guest) (words : List ℕ) → Same (dirtied tables64 q page last words) words
+pub dirtied-same : (Y : Layout) → Sound Y → (q : Request) (page : ℕ) (last : Guest) (words : List ℕ) → Same Y (dirtied Y q page last words) words
 unfolding dirtied
-dirtied-same q page last words = go (isWrite q)
+dirtied-same Y ok q page last words = go (isWrite q)
   where
-    go : (b : Bool) → Same (cond b (put tables64 words (last .0) (index tables64 page 1) (markD (get tables64 words (last .0) (index tables64 page 1)))) words) words
-    go true = same-mark-d words (last .0) (index tables64 page 1)
-    go false = same-refl words
+    go : (b : Bool) → Same Y (cond b (put Y words (last .0) (index Y page 1) (markD (get Y words (last .0) (index Y page 1)))) words) words
+    go true = same-mark Y ok 6 (inr refl) words (last .0) (index Y page 1) (index-small Y page 1)
+    go false = same-refl Y words
 
 -- the lowest slot that serves serves
 serving : (slots : List ℕ) (p page : ℕ) (q : Request) → servingSlot slots p page q < slotCount → slotServes slots p page q (servingSlot slots p page q) ≡ true
 unfolding servingSlot
 serving slots p page q h = first-passes (slotServes slots p page q) slotCount 0 h
 
-module _ (z : Sizes) (map : List ℕ) (p a b : ℕ) (s : State) where
-  abbrev M : Machine
-  M = machine64 z
-
+module _ (M : Machine) (map : List ℕ) (p a b : ℕ) (s : State) where
   abbrev page : ℕ
-  page = pageOf tables64 a
+  page = pageOf (M .tables) a
 
   abbrev q : Request
-  q = requestOf tables64 b
+  q = requestOf (M .tables) b
 
   abbrev pub path : Path
   path = pathTo M (s .shadow .pool) p page 1
@@ -62,7 +62,7 @@ module _ (z : Sizes) (map : List ℕ) (p a b : ℕ) (s : State) where
   cr3 = shadows (s .shadow .records) (rootOf M p)
 
   abbrev pub walked : Trod
-  walked = walkGuest tables64 (z .frames) page (s .words) cr3
+  walked = walkGuest (M .tables) (M .frames) page (s .words) cr3
 
   -- with the words that the walk left
   abbrev pub trodden : State
@@ -70,14 +70,14 @@ module _ (z : Sizes) (map : List ℕ) (p a b : ℕ) (s : State) where
 
   -- with D, before the fill
   abbrev pub marked : Guest → State
-  marked last = stateOf (dirtied tables64 q page last (walked .words)) (s .shadow) (s .slots)
+  marked last = stateOf (dirtied (M .tables) q page last (walked .words)) (s .shadow) (s .slots)
 
   -- THE WAYS OUT OF AN ACCESS
   pub data Way (out : Result) : Type 0 where
     slot : (k : ℕ) → k < slotCount → slotServes (s .slots) p page q k ≡ true
         → out ≡ gives (Address (valueAt (hostOf map (guest (placeIn (s .slots) p k))) a)) s → Way out
-    shadow : isPresent end ≡ true → enough q (meet (path .rights) (rightsOf tables64 end)) ≡ true
-        → out ≡ gives (Address (valueAt (host (frameOf tables64 end)) a)) s → Way out
+    shadow : isPresent end ≡ true → enough q (meet (path .rights) (rightsOf (M .tables) end)) ≡ true
+        → out ≡ gives (Address (valueAt (host (frameOf (M .tables) end)) a)) s → Way out
     fault : (base : ℕ) → walked .ended ≡ Fault base → out ≡ gives (Faulted (base + q .adds)) trodden → Way out
     lacks : (last : Guest) (w : Walk) → walked .ended ≡ Whole last w → enough q (w .rights) ≡ false → out ≡ gives (Faulted (1 + q .adds)) trodden → Way out
     again : (last : Guest) (w : Walk) → walked .ended ≡ Whole last w → enough q (w .rights) ≡ true → out ≡ gives Again (fill M map p page (marked last)) → Way out
@@ -97,71 +97,72 @@ module _ (z : Sizes) (map : List ℕ) (p a b : ℕ) (s : State) where
 
   pub ways : Way (afterAccess M map p a b s)
   unfolding afterAccess
-  ways = go (ltb k slotCount) refl (isPresent end) refl (enough q (meet (path .rights) (rightsOf tables64 end))) refl
+  ways = go (ltb k slotCount) refl (isPresent end) refl (enough q (meet (path .rights) (rightsOf (M .tables) end))) refl
     where
       k : ℕ
       k = servingSlot (s .slots) p page q
 
-      go : (u : Bool) → ltb k slotCount ≡ u → (v : Bool) → isPresent end ≡ v → (w : Bool) → enough q (meet (path .rights) (rightsOf tables64 end)) ≡ w
+      go : (u : Bool) → ltb k slotCount ≡ u → (v : Bool) → isPresent end ≡ v → (w : Bool) → enough q (meet (path .rights) (rightsOf (M .tables) end)) ≡ w
           → Way (cond u (gives (Address (valueAt (hostOf map (guest (placeIn (s .slots) p k))) a)) s)
-          (cond (v && w) (gives (Address (valueAt (host (frameOf tables64 end)) a)) s) (afterMiss M map p page q s)))
+          (cond (v && w) (gives (Address (valueAt (host (frameOf (M .tables) end)) a)) s) (afterMiss M map p page q s)))
       go true e v f w g = slot k (ltb-true k slotCount e) (serving (s .slots) p page q (ltb-true k slotCount e)) refl
       go false e true f true g = shadow f g refl
       go false e true f false g = miss
       go false e false f w g = miss
 
   -- where the page's path serves, an address is answered
-  pub served : isPresent end ≡ true → enough q (meet (path .rights) (rightsOf tables64 end)) ≡ true → (v : ℕ) × (afterAccess M map p a b s .answer ≡ Address v)
+  pub served : isPresent end ≡ true → enough q (meet (path .rights) (rightsOf (M .tables) end)) ≡ true → (v : ℕ) × (afterAccess M map p a b s .answer ≡ Address v)
   unfolding afterAccess
   served here good = go (ltb (servingSlot (s .slots) p page q) slotCount) here good
     where
-      go : (u : Bool) → isPresent end ≡ true → enough q (meet (path .rights) (rightsOf tables64 end)) ≡ true
+      go : (u : Bool) → isPresent end ≡ true → enough q (meet (path .rights) (rightsOf (M .tables) end)) ≡ true
           → (v : ℕ) × (cond u (gives (Address (valueAt (hostOf map (guest (placeIn (s .slots) p (servingSlot (s .slots) p page q)))) a)) s)
-          (cond (isPresent end && enough q (meet (path .rights) (rightsOf tables64 end))) (gives (Address (valueAt (host (frameOf tables64 end)) a)) s) (afterMiss M map p page q s)) .answer ≡ Address v)
+          (cond (isPresent end && enough q (meet (path .rights) (rightsOf (M .tables) end))) (gives (Address (valueAt (host (frameOf (M .tables) end)) a)) s) (afterMiss M map p page q s)) .answer ≡ Address v)
       go true here good = (_, refl)
-      go false here good = (valueAt (host (frameOf tables64 end)) a, simp (here, good))
+      go false here good = (valueAt (host (frameOf (M .tables) end)) a, simp (here, good))
 
   -- ---- the walk of the guest's tables
 
-  pub trod-same : Same (walked .words) (s .words)
-  trod-same = treads z page (s .words) 4 (s .words) cr3 (start tables64 cr3) (same-refl (s .words)) refl .same
+  module _ (sound : Sound (M .tables)) where
+    pub trod-same : Same (M .tables) (walked .words) (s .words)
+    trod-same = treads M sound page (s .words) (M .tables .levels) (s .words) cr3 (start (M .tables) cr3) (same-refl (M .tables) (s .words)) refl .same
 
-  pub marked-same : (last : Guest) → Same (marked last .words) (s .words)
-  marked-same last = same-trans (dirtied-same q page last (walked .words)) trod-same
+    pub marked-same : (last : Guest) → Same (M .tables) (marked last .words) (s .words)
+    marked-same last = same-trans (M .tables) (dirtied-same (M .tables) sound q page last (walked .words)) trod-same
 
-  pub marked-leads : (last : Guest) (w : Walk) → walked .ended ≡ Whole last w → Leads M (marked last .words) page last (w .frame) (w .rights) 4 cr3 7
-  marked-leads last w e = treads z page (marked last .words) 4 (s .words) cr3 (start tables64 cr3) (same-sym (marked-same last)) refl .leads last w e .0
+    pub marked-leads : (last : Guest) (w : Walk) → walked .ended ≡ Whole last w → Leads M (marked last .words) page last (w .frame) (w .rights) (M .tables .levels) cr3 7
+    marked-leads last w e = treads M sound page (marked last .words) (M .tables .levels) (s .words) cr3 (start (M .tables) cr3) (same-sym (M .tables) (marked-same last)) refl .leads last w e .0
 
   -- ---- EVERY WAY KEEPS THE STATE RULES
 
-  module _ (ok : Sized z) (spare : 4 ≤ z .share) (fits : Mapped z map) (hp : p < z .processors) (r : Right z map s) where
+  module _ (ok : Able M) (spare : M .tables .levels ≤ M .share) (fits : Mapped M map) (hp : p < M .processors) (r : Right M map s) where
     module _ (last : Guest) (w : Walk) (e : walked .ended ≡ Whole last w) where
-      pub marked-right : Right z map (marked last)
-      marked-right = words-right z ok map fits (marked last .words) r
+      pub marked-right : Right M map (marked last)
+      marked-right = words-right M ok map fits (marked last .words) r
 
-      pub filling : Fills z ok spare map fits p hp (marked last) marked-right page (page-small a) last (w .frame) (w .rights) (marked-leads last w e) (fill M map p page (marked last))
-      filling = fills z ok spare map fits p hp (marked last) marked-right page (page-small a) last (w .frame) (w .rights) (marked-leads last w e)
+      pub filling : Fills M ok spare map fits p hp (marked last) marked-right page (page-small (M .tables) a) last (w .frame) (w .rights) (marked-leads (ok .sound) last w e) (fill M map p page (marked last))
+      filling = fills M ok spare map fits p hp (marked last) marked-right page (page-small (M .tables) a) last (w .frame) (w .rights) (marked-leads (ok .sound) last w e)
 
-      pub filling-reshapes : Reshaped z ok map fits p (marked last) (fill M map p page (marked last))
-      filling-reshapes = fill-reshapes z ok spare map fits p hp (marked last) marked-right page (page-small a) last (w .frame) (w .rights) (marked-leads last w e)
+      pub filling-reshapes : Reshaped M ok map fits p (marked last) (fill M map p page (marked last))
+      filling-reshapes = fill-reshapes M ok spare map fits p hp (marked last) marked-right page (page-small (M .tables) a) last (w .frame) (w .rights) (marked-leads (ok .sound) last w e)
 
-    way-right : {out : Result} → Way out → Right z map (out .state)
+    way-right : {out : Result} → Way out → Right M map (out .state)
     way-right (slot k h v q) = rw q r
     way-right (shadow h v q) = rw q r
-    way-right (fault base e q) = rw q (words-right z ok map fits (walked .words) r)
-    way-right (lacks last w e v q) = rw q (words-right z ok map fits (walked .words) r)
-    way-right (again last w e v q) = rw q (reshaped-right z ok map fits (marked-right last w e) (filling-reshapes last w e))
+    way-right (fault base e q) = rw q (words-right M ok map fits (walked .words) r)
+    way-right (lacks last w e v q) = rw q (words-right M ok map fits (walked .words) r)
+    way-right (again last w e v q) = rw q (reshaped-right M ok map fits (marked-right last w e) (filling-reshapes last w e))
 
-    pub access-right : Right z map (afterAccess M map p a b s .state)
+    pub access-right : Right M map (afterAccess M map p a b s .state)
     access-right = way-right ways
 
     -- the words keep their number
-    way-words : {out : Result} → Way out → Same (out .state .words) (s .words)
-    way-words (slot k h v q) = rw q (same-refl (s .words))
-    way-words (shadow h v q) = rw q (same-refl (s .words))
-    way-words (fault base e q) = rw q trod-same
-    way-words (lacks last w e v q) = rw q trod-same
-    way-words (again last w e v q) = rw q (rw (filling last w e .words) (marked-same last))
+    way-words : {out : Result} → Way out → Same (M .tables) (out .state .words) (s .words)
+    way-words (slot k h v q) = rw q (same-refl (M .tables) (s .words))
+    way-words (shadow h v q) = rw q (same-refl (M .tables) (s .words))
+    way-words (fault base e q) = rw q (trod-same (ok .sound))
+    way-words (lacks last w e v q) = rw q (trod-same (ok .sound))
+    way-words (again last w e v q) = rw q (rw (filling last w e .words) (marked-same (ok .sound) last))
 
-    pub access-words : Same (afterAccess M map p a b s .state .words) (s .words)
+    pub access-words : Same (M .tables) (afterAccess M map p a b s .state .words) (s .words)
     access-words = way-words ways

@@ -5,6 +5,7 @@ use mathlib.Core.List.{List}
 use Prim.Native.Nat.{ℕ, _+_, _^_, _<_}
 use native.Mathlib.Decide.{ℕ-discrete}
 use native.Mathlib.Omega.{arith}
+use lib.Pow.{pow-pos}
 use lib.ListN.{length, getD}
 use borrow.Author.Tests.{eq-eqb, le-leb, lt-ltb, not-true}
 use Rattle.paging.specs.Frame.{mapFits}
@@ -12,74 +13,77 @@ use Rattle.paging.specs.Numbers.{all}
 use Rattle.paging.proofs.Numbers.{all-at}
 use Rattle.paging.proofs.Tests.{both}
 use Rattle.rules.specs.declared.Event.{Event}
-use Rattle.tables.specs.declared.Sizes.{Sizes}
-use Rattle.tables.specs.State.{State, machine64, tableCount}
+use Rattle.tables.specs.State.{Machine, State, tableCount}
 use Rattle.shadow.specs.After.{Result, poolFits, inPool, framesFit, callRefusal, after, decode, moved, afterStore, afterInvlpg, afterCr3, afterAccess, afterBegin, afterExtend, afterLoss}
 use Rattle.shadow.proofs.Sizing.{hosts-below}
-use Rattle.shadow.proofs.Accepted.{accepted-exact, accepted-frames, accepted-sized, accepted-lawful, accepted-cr3, fitting}
+use Rattle.shadow.proofs.Accepted.{accepted-ranged, accepted-room, accepted-exact, accepted-frames, accepted-lawful, accepted-cr3, accepted-numbers}
 use Rattle.shadow.proofs.Moves.{seventh, moved-store, moved-invlpg, moved-cr3, moved-access, moved-begin, moved-extend, moved-loss}
-use Rattle.trees.proofs.Entries.{able64}
+use Rattle.trees.proofs.Trees.{Laid, Able, able}
 use Rattle.trees.proofs.Rules.{lawful-is}
 use Rattle.keeps.proofs.Right.{Mapped, Right}
 
 -- a map that fits
-pub mapped : (z : Sizes) (map : List ℕ) → length map ≡ z .frames → framesFit (machine64 z) map ≡ true → Mapped z map
+pub mapped : (M : Machine) (map : List ℕ) → length map ≡ M .frames → framesFit M map ≡ true → Mapped M map
 unfolding framesFit inPool
-mapped z map guests fits = record {
+mapped M map guests fits = record {
   guests = guests;
-  within = λ k h. hosts-below (2 ^ 40) (omega arith) map (inside .1) k;
+  within = λ k h. hosts-below (2 ^ M .tables .frameBits) (pow-pos (M .tables .frameBits)) map (inside .1) k;
   outside = λ i h lo hi.
-      let t = all-at (λ i. not (inPool (machine64 z) (getD map i 0))) (length map) (halves .1) i h in
-      let f : inPool (machine64 z) (getD map i 0) ≡ false = not-true _ t in
-      let g : inPool (machine64 z) (getD map i 0) ≡ true = simp (le-leb (z .base) (getD map i 0) lo, lt-ltb (getD map i 0) (z .base + tableCount (machine64 z)) hi) in
+      let t = all-at (λ i. not (inPool M (getD map i 0))) (length map) (halves .1) i h in
+      let f : inPool M (getD map i 0) ≡ false = not-true _ t in
+      let g : inPool M (getD map i 0) ≡ true = simp (le-leb (M .base) (getD map i 0) lo, lt-ltb (getD map i 0) (M .base + tableCount M) hi) in
       let e : true ≡ false = sym g ∙ f in
       let n : _≡_ {A = ℕ} 0 1 = cc in omega arith;
 }
   where
-    halves : ((poolFits (machine64 z) && mapFits (2 ^ 40) map) ≡ true) × (all (length map) (λ i. not (inPool (machine64 z) (getD map i 0))) ≡ true)
-    halves = both (poolFits (machine64 z) && mapFits (2 ^ 40) map) (all (length map) (λ i. not (inPool (machine64 z) (getD map i 0)))) fits
+    halves : ((poolFits M && mapFits (2 ^ M .tables .frameBits) map) ≡ true) × (all (length map) (λ i. not (inPool M (getD map i 0))) ≡ true)
+    halves = both (poolFits M && mapFits (2 ^ M .tables .frameBits) map) (all (length map) (λ i. not (inPool M (getD map i 0)))) fits
 
-    inside : (poolFits (machine64 z) ≡ true) × (mapFits (2 ^ 40) map ≡ true)
-    inside = both (poolFits (machine64 z)) (mapFits (2 ^ 40) map) (halves .0)
+    inside : (poolFits M ≡ true) × (mapFits (2 ^ M .tables .frameBits) map ≡ true)
+    inside = both (poolFits M) (mapFits (2 ^ M .tables .frameBits) map) (halves .0)
 
-module _ (z : Sizes) (map : List ℕ) (s : State) (e : Event) where
+module _ (M : Machine) (map : List ℕ) (s : State) (e : Event) where
   -- WHICH OF THE SEVEN KINDS, within its range
   pub data Kind (out : Result) : Type 0 where
     store : e .kind ≡ 1 → e .a < length (s .words) → out ≡ afterStore (e .a) (e .b) s → Kind out
-    invlpg : e .kind ≡ 2 → out ≡ afterInvlpg (machine64 z) (e .proc) (e .a) s → Kind out
-    cr3 : e .kind ≡ 3 → e .a < z .frames → out ≡ afterCr3 (machine64 z) (e .proc) (e .a) s → Kind out
-    access : e .kind ≡ 4 → e .b < 6 → out ≡ afterAccess (machine64 z) map (e .proc) (e .a) (e .b) s → Kind out
-    begin : e .kind ≡ 5 → e .b < 8 → out ≡ afterBegin (machine64 z) (e .proc) (e .a) (e .b) s → Kind out
-    extend : e .kind ≡ 6 → e .a < 8 → out ≡ afterExtend (machine64 z) map (e .proc) (e .a) s → Kind out
+    invlpg : e .kind ≡ 2 → out ≡ afterInvlpg M (e .proc) (e .a) s → Kind out
+    cr3 : e .kind ≡ 3 → e .a < M .frames → out ≡ afterCr3 M (e .proc) (e .a) s → Kind out
+    access : e .kind ≡ 4 → e .b < 6 → out ≡ afterAccess M map (e .proc) (e .a) (e .b) s → Kind out
+    begin : e .kind ≡ 5 → e .b < 8 → out ≡ afterBegin M (e .proc) (e .a) (e .b) s → Kind out
+    extend : e .kind ≡ 6 → e .a < 8 → out ≡ afterExtend M map (e .proc) (e .a) s → Kind out
     loss : e .kind ≡ 7 → e .a < 8 → out ≡ afterLoss (e .proc) (e .a) s → Kind out
 
-  module _ (ok : callRefusal (machine64 z) map s e ≡ 0) where
-    pub accepted-mapped : Mapped z map
-    accepted-mapped = mapped z map (accepted-exact (machine64 z) map s e ok .guests) (accepted-frames (machine64 z) map s e ok)
+  module _ (ok : callRefusal M map s e ≡ 0) where
+    pub accepted-mapped : Mapped M map
+    accepted-mapped = mapped M map (accepted-exact M map s e ok .guests) (accepted-frames M map s e ok)
 
-    pub accepted-right : Right z map s
-    accepted-right =
-        let x = accepted-exact (machine64 z) map s e ok in
+    pub accepted-able : Laid (M .tables) → Able M
+    accepted-able laid =
+        able M laid (omega (arith, laid .upper, accepted-ranged M map s e ok .share)) (accepted-room M map s e ok)
+
+    pub accepted-right : Laid (M .tables) → Right M map s
+    accepted-right laid =
+        let x = accepted-exact M map s e ok in
         record {
-          law = lawful-is (machine64 z) (able64 z (accepted-sized z map s e ok)) map (accepted-mapped .outside) s (record { words = x .words; pairs = x .pairs }) .0 (accepted-lawful (machine64 z) map s e ok);
+          law = lawful-is M (accepted-able laid) map (accepted-mapped .outside) s (record { words = x .words; pairs = x .pairs }) .0 (accepted-lawful M map s e ok);
           triples = x .triples;
         }
 
-    pub taken : after (machine64 z) map s e ≡ moved (machine64 z) map (e .proc) (decode e) s
+    pub taken : after M map s e ≡ moved M map (e .proc) (decode e) s
     unfolding after
-    taken = simp (eq-eqb (callRefusal (machine64 z) map s e) 0 ok)
+    taken = simp (eq-eqb (callRefusal M map s e) 0 ok)
 
-    pub kinds : Kind (after (machine64 z) map s e)
+    pub kinds : Kind (after M map s e)
     kinds =
         go (ℕ-discrete (e .kind) 1) (ℕ-discrete (e .kind) 2) (ℕ-discrete (e .kind) 3) (ℕ-discrete (e .kind) 4) (ℕ-discrete (e .kind) 5) (ℕ-discrete (e .kind) 6)
       where
-        go : Dec (e .kind ≡ 1) → Dec (e .kind ≡ 2) → Dec (e .kind ≡ 3) → Dec (e .kind ≡ 4) → Dec (e .kind ≡ 5) → Dec (e .kind ≡ 6) → Kind (after (machine64 z) map s e)
-        go (yes q) b c d f g = store q (fitting z map s e ok .stores q) (taken ∙ sym (moved-store (machine64 z) map s e q))
-        go (no a) (yes q) c d f g = invlpg q (taken ∙ sym (moved-invlpg (machine64 z) map s e q))
-        go (no a) (no b) (yes q) d f g = cr3 q (accepted-cr3 (machine64 z) map s e ok (eq-eqb (e .kind) 3 q)) (taken ∙ sym (moved-cr3 (machine64 z) map s e q))
-        go (no a) (no b) (no c) (yes q) f g = access q (fitting z map s e ok .requests q) (taken ∙ sym (moved-access (machine64 z) map s e q))
-        go (no a) (no b) (no c) (no d) (yes q) g = begin q (fitting z map s e ok .begins q) (taken ∙ sym (moved-begin (machine64 z) map s e q))
-        go (no a) (no b) (no c) (no d) (no f) (yes q) = extend q (fitting z map s e ok .extends q) (taken ∙ sym (moved-extend (machine64 z) map s e q))
+        go : Dec (e .kind ≡ 1) → Dec (e .kind ≡ 2) → Dec (e .kind ≡ 3) → Dec (e .kind ≡ 4) → Dec (e .kind ≡ 5) → Dec (e .kind ≡ 6) → Kind (after M map s e)
+        go (yes q) b c d f g = store q (accepted-numbers M map s e ok .stores q) (taken ∙ sym (moved-store M map s e q))
+        go (no a) (yes q) c d f g = invlpg q (taken ∙ sym (moved-invlpg M map s e q))
+        go (no a) (no b) (yes q) d f g = cr3 q (accepted-cr3 M map s e ok (eq-eqb (e .kind) 3 q)) (taken ∙ sym (moved-cr3 M map s e q))
+        go (no a) (no b) (no c) (yes q) f g = access q (accepted-numbers M map s e ok .requests q) (taken ∙ sym (moved-access M map s e q))
+        go (no a) (no b) (no c) (no d) (yes q) g = begin q (accepted-numbers M map s e ok .begins q) (taken ∙ sym (moved-begin M map s e q))
+        go (no a) (no b) (no c) (no d) (no f) (yes q) = extend q (accepted-numbers M map s e ok .extends q) (taken ∙ sym (moved-extend M map s e q))
         go (no a) (no b) (no c) (no d) (no f) (no g) =
-            let q = seventh (e .kind) (fitting z map s e ok .kind) a b c d f g in
-            loss q (fitting z map s e ok .loses q) (taken ∙ sym (moved-loss (machine64 z) map s e q))
+            let q = seventh (e .kind) (accepted-numbers M map s e ok .kind) a b c d f g in
+            loss q (accepted-numbers M map s e ok .loses q) (taken ∙ sym (moved-loss M map s e q))

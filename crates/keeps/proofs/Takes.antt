@@ -3,16 +3,16 @@ use mathlib.Core.Path.{_≡_, refl, ap, _∙_}
 use mathlib.Core.Bool.{Bool, true, false, cond}
 use mathlib.Core.List.{List}
 use mathlib.Core.Logic.{_⊎_, inl, inr}
-use Prim.Native.Nat.{ℕ, _≤_, _<_}
+use Prim.Native.Nat.{ℕ, _-_, _≤_, _<_}
 use native.Mathlib.Decide.{ℕ-discrete, decLt}
 use native.Mathlib.Omega.{arith}
 use lib.Dec.{ltb}
+use lib.Pow.{pow-pos}
 use borrow.Author.Tests.{ltb-true, ltb-false}
 use Rattle.paging.specs.Frame.{guest}
-use Rattle.paging.specs.Layout.{tables64, index, pageOf, isPresent}
+use Rattle.paging.specs.Layout.{index, pageOf, isPresent}
 use Rattle.paging.proofs.Indices.{index-small}
-use Rattle.tables.specs.declared.Sizes.{Sizes}
-use Rattle.tables.specs.State.{Machine, Shadow, onPool, onRecords, State, machine64, slotCount, markOf, withRecord, tableCount, ownerOf, rootOf, entryCount, withEntry, nextEntry, pathTo, Sized}
+use Rattle.tables.specs.State.{Machine, Shadow, onPool, onRecords, State, slotCount, markOf, withRecord, tableCount, ownerOf, rootOf, entryCount, withEntry, nextEntry, pathTo}
 use Rattle.tables.specs.Steps.{flush, emptyShare}
 use Rattle.tables.proofs.Counts.{by-cases}
 use Rattle.shadow.specs.After.{leafCleared, afterInvlpg, afterCr3}
@@ -23,7 +23,7 @@ use Rattle.trees.proofs.Shares.{share-trees, share-less, share-others, share-ow
 use Rattle.trees.proofs.Paths.{lost-entry, stands, zero-absent}
 use Rattle.trees.proofs.Unique.{leaf-here}
 use Rattle.trees.proofs.Slots.{SameSlot, Empty, Room, emptySlots-length, emptySlots-other, emptySlots-here, flush-length, flush-others, flush-here}
-use Rattle.keeps.proofs.Right.{Mapped, Right, able, room, Reshaped}
+use Rattle.keeps.proofs.Right.{Mapped, Right, room, Reshaped}
 
 -- what a flush leaves of a slot
 pub flush-leaves : (p v : ℕ) (slots : List ℕ) (k : ℕ) → k < slotCount → Room slots p
@@ -31,21 +31,18 @@ pub flush-leaves : (p v : ℕ) (slots : List ℕ) (k : ℕ) → k < slotCount �
 flush-leaves p v slots k hk here =
     by-cases (flush-here p v slots k hk here) (λ x. inr (x .0, by-cases (x .1) (λ e. omega arith) (λ e. omega (arith, e .0)))) (λ x. inl x)
 
-module _ (z : Sizes) (ok : Sized z) (map : List ℕ) (fits : Mapped z map) (p : ℕ) (hp : p < z .processors) (s : State) (r : Right z map s) where
-  abbrev M : Machine
-  M = machine64 z
-
+module _ (M : Machine) (ok : Able M) (map : List ℕ) (fits : Mapped M map) (p : ℕ) (hp : p < M .processors) (s : State) (r : Right M map s) where
   abbrev out : Outside M map
   out = fits .outside
 
   abbrev ready : Able M
-  ready = able z ok map fits
+  ready = ok
 
   abbrev was : Trees M map (s .shadow)
   was = r .law .trees
 
   here : Room (s .slots) p
-  here = room z ok map fits (s .slots) (r .triples) p hp
+  here = room M ok map fits (s .slots) (r .triples) p hp
 
   -- ---- "INVLPG: if present entries lead to a level 1 table, its entry becomes 0. Then the flush of v"
 
@@ -58,7 +55,7 @@ module _ (z : Sizes) (ok : Sized z) (map : List ℕ) (fits : Mapped z map) (p : 
 
   module _ (a : ℕ) where
     abbrev v : ℕ
-    v = pageOf tables64 a
+    v = pageOf (M .tables) a
 
     abbrev t : ℕ
     t = pathTo M (s .shadow .pool) p v 1 .table
@@ -75,22 +72,22 @@ module _ (z : Sizes) (ok : Sized z) (map : List ℕ) (fits : Mapped z map) (p : 
     -- it reaches a level 1 table
     module _ (on : t < tableCount M) where
       abbrev i : ℕ
-      i = index tables64 v 1
+      i = index (M .tables) v 1
 
       abbrev s₁ : Shadow
       s₁ = onPool (withEntry M t i 0) (s .shadow)
 
       level : lev M (s .shadow) t ≡ 1
-      level = stands M ready map out (s .shadow) was p hp v 3 (omega arith) on .0
+      level = stands M ready map out (s .shadow) was p hp v (M .tables .levels - 1) (omega (arith, ok .upper)) on .0 ∙ omega (arith, ok .upper)
 
       owner : ownerOf M t ≡ p
-      owner = stands M ready map out (s .shadow) was p hp v 3 (omega arith) on .1
+      owner = stands M ready map out (s .shadow) was p hp v (M .tables .levels - 1) (omega (arith, ok .upper)) on .1
 
       cleared : ent M s₁ t i ≡ 0
-      cleared = leaf-entry M ready map out (s .shadow) was t i 0 on level (index-small tables64 v 1) (omega arith) (inl refl)
+      cleared = leaf-entry M ready map out (s .shadow) was t i 0 on level (index-small (M .tables) v 1) (pow-pos (M .tables .entryBits)) (inl refl)
 
       beside : (u k : ℕ) → k < entryCount M → (u ≡ t → k ≡ i → ⊥) → ent M s₁ u k ≡ ent M (s .shadow) u k
-      beside = leaf-beside M ready map out (s .shadow) was t i 0 on level (index-small tables64 v 1) (omega arith) (inl refl)
+      beside = leaf-beside M ready map out (s .shadow) was t i 0 on level (index-small (M .tables) v 1) (pow-pos (M .tables .entryBits)) (inl refl)
 
       lessened : (u k : ℕ) → k < entryCount M → Dec (u ≡ t) → Dec (k ≡ i) → (ent M s₁ u k ≡ ent M (s .shadow) u k) ⊎ (ent M s₁ u k ≡ 0)
       lessened u k hk (yes x) (yes y) = inr (rw (x, y) cleared)
@@ -99,17 +96,17 @@ module _ (z : Sizes) (ok : Sized z) (map : List ℕ) (fits : Mapped z map) (p : 
 
       some : Takes v s₁
       some = record {
-        trees = leaf-trees M ready map out (s .shadow) was t i 0 on level (index-small tables64 v 1) (omega arith) (inl refl);
+        trees = leaf-trees M ready map out (s .shadow) was t i 0 on level (index-small (M .tables) v 1) (pow-pos (M .tables .entryBits)) (inl refl);
         less = record { entries = λ u hu k hk. lessened u k hk (ℕ-discrete u t) (ℕ-discrete k i) };
         others = λ u hu ne. record { entries = λ k hk. beside u k hk (λ e x. ne (ap (ownerOf M) e ∙ owner)); level = refl; frame = refl };
-        gone = zero-absent _ (leaf-here M ready map out (s .shadow) was p hp v t 0 on level refl (omega arith));
+        gone = zero-absent _ (leaf-here M ready map out (s .shadow) was p hp v t 0 on level refl (pow-pos (M .tables .entryBits)));
       }
 
     clears : Takes v (onPool (leafCleared M p v) (s .shadow))
     unfolding leafCleared
     clears = go (ltb t (tableCount M)) refl
       where
-        go : (b : Bool) → ltb t (tableCount M) ≡ b → Takes v (onPool (λ pool. cond b (withEntry M t (index tables64 v 1) 0 pool) pool) (s .shadow))
+        go : (b : Bool) → ltb t (tableCount M) ≡ b → Takes v (onPool (λ pool. cond b (withEntry M t (index (M .tables) v 1) 0 pool) pool) (s .shadow))
         go true q = some (ltb-true t (tableCount M) q)
         go false q = none (ltb-false t (tableCount M) q)
 
@@ -117,7 +114,7 @@ module _ (z : Sizes) (ok : Sized z) (map : List ℕ) (fits : Mapped z map) (p : 
     unfolding afterInvlpg
     invlpg-takes = clears
 
-    pub invlpg-reshapes : Reshaped z ok map fits p s (afterInvlpg M p a s .state)
+    pub invlpg-reshapes : Reshaped M ok map fits p s (afterInvlpg M p a s .state)
     unfolding afterInvlpg
     invlpg-reshapes = record {
       trees = clears .trees;
@@ -129,7 +126,7 @@ module _ (z : Sizes) (ok : Sized z) (map : List ℕ) (fits : Mapped z map) (p : 
 
   -- ---- "CR3 write: all tables of p freed, root set up anew, all slots of p emptied."
 
-  module _ (f : ℕ) (hf : f < z .frames) where
+  module _ (f : ℕ) (hf : f < M .frames) where
     abbrev bare : Shadow
     bare = emptyShare M p (s .shadow)
 
@@ -152,16 +149,16 @@ module _ (z : Sizes) (ok : Sized z) (map : List ℕ) (fits : Mapped z map) (p : 
       gone = go (decLt (pathTo M (bare .pool) p v 1 .table) (tableCount M));
     }
       where
-        anew : Trees M map (onRecords (withRecord (rootOf M p) 4 (guest f)) bare)
+        anew : Trees M map (onRecords (withRecord (rootOf M p) (M .tables .levels) (guest f)) bare)
         anew = root-trees M ready map bare bare-trees p hp f hf
 
         go : Dec (pathTo M (bare .pool) p v 1 .table < tableCount M) → isPresent (nextEntry M (bare .pool) v (pathTo M (bare .pool) p v 1)) ≡ true → ⊥
         go (yes on) =
             zero-absent _ (share-own M ready map out (s .shadow) was p hp (pathTo M (bare .pool) p v 1 .table) on
-            (stands M ready map out bare bare-trees p hp v 3 (omega arith) on .1) _ (index-small tables64 v (pathTo M (bare .pool) p v 1 .level)))
+            (stands M ready map out bare bare-trees p hp v (M .tables .levels - 1) (omega (arith, ok .upper)) on .1) _ (index-small (M .tables) v (pathTo M (bare .pool) p v 1 .level)))
         go (no off) = zero-absent _ (lost-entry M ready bare (bare-trees .exact) v (pathTo M (bare .pool) p v 1) (omega arith))
 
-    pub cr3-reshapes : Reshaped z ok map fits p s (afterCr3 M p f s .state)
+    pub cr3-reshapes : Reshaped M ok map fits p s (afterCr3 M p f s .state)
     unfolding afterCr3
     cr3-reshapes = record {
       trees = cr3-takes 0 .trees;

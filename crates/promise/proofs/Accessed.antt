@@ -1,85 +1,80 @@
 -- An access carries the invariant: what it fills is the guest's path as it is now.
 use mathlib.Core.Path.{_≡_, refl, sym, ap, _∙_}
 use mathlib.Core.List.{List}
-use Prim.Native.Nat.{ℕ, suc, _^_, _≤_, _<_}
+use Prim.Native.Nat.{ℕ, suc, _*_, _^_, _≤_, _<_}
 use native.Mathlib.Decide.{ℕ-discrete}
 use native.Mathlib.Omega.{arith}
 use Rattle.paging.specs.declared.Guest.{Guest}
 use Rattle.paging.specs.declared.Walk.{Walk}
 use Rattle.paging.specs.Frame.{guest}
-use Rattle.paging.specs.Layout.{tables64, pageOf, get, index}
+use Rattle.paging.specs.Layout.{pageOf, get, index}
 use Rattle.paging.specs.Walk.{start, step}
-use Rattle.paging.proofs.Layouts.{tables64-sound}
 use Rattle.rules.specs.declared.Event.{Event}
 use Rattle.rules.specs.History.{eventAt, wordsAt}
 use Rattle.rules.specs.View.{viewOf}
 use Rattle.rules.proofs.Lawful.{Lawful}
 use Rattle.rules.proofs.Steps.{Kept, begin}
 use Rattle.rules.proofs.Theorems.{view-lawful}
-use Rattle.tables.specs.declared.Sizes.{Sizes}
 use Rattle.tables.specs.declared.Walked.{Walked}
 use Rattle.tables.specs.declared.Walked.the-variants.{Whole}
-use Rattle.tables.specs.State.{machine64, Machine, State, slotCount, pageIn, rootOf, Sized}
+use Rattle.tables.specs.State.{Machine, State, slotCount, pageIn, rootOf}
 use Rattle.tables.proofs.Counts.{by-cases}
 use Rattle.shadow.specs.After.{Result, fill, afterAccess, callRefusal}
 use Rattle.shadow.proofs.Accepted.{accepted-ranged}
-use Rattle.trees.proofs.Trees.{shd}
+use Rattle.trees.proofs.Trees.{Able, shd}
 use Rattle.trees.proofs.Roots.{root-table, root-owner}
 use Rattle.trees.proofs.Slots.{SameSlot}
 use Rattle.keeps.proofs.Alikes.{same-refl}
-use Rattle.keeps.proofs.Right.{Mapped, able}
+use Rattle.keeps.proofs.Right.{Mapped}
 use Rattle.keeps.proofs.Moves.{page-small}
 use Rattle.keeps.proofs.Filled.{Fills}
 use Rattle.keeps.proofs.Accesses.{walked, marked, trod-same, marked-same, marked-leads, marked-right, filling, Way, slot, shadow, fault, lacks, again, ways}
 use Rattle.keeps.proofs.Again.{end-covers, end-frame, end-inside}
-use Rattle.promise.specs.Demand.{Fresh, machineOf}
+use Rattle.promise.specs.Demand.{Fresh}
 use Rattle.promise.proofs.GuestWalks.{Ends, whole, absent, beyond, walks}
 use Rattle.promise.proofs.Holds.{U, seen, Holds, Pathed, Slotted, stay-path, stay-slot, stay-backed, same-path, same-slot, no-slot, quiet-unended, cr3-kept}
 use Rattle.promise.proofs.Carries.{After, sized, fits, hp, still, kept-words}
 
 module _ (F : Fresh) (es : List Event) (k : ℕ) (s : State) (h : Holds F es k s) where
-  abbrev z : Sizes
-  z = F .sizes
+  abbrev M : Machine
+  M = F .machine
 
   abbrev map : List ℕ
   map = F .map
 
-  abbrev M : Machine
-  M = machineOf F
-
   -- ---- the guest's walk, seen from the rules
 
-  module _ (p : ℕ) (hp′ : p < z .processors) (a b : ℕ) where
+  module _ (p : ℕ) (hp′ : p < M .processors) (a b : ℕ) where
     abbrev v : ℕ
-    v = pageOf tables64 a
+    v = pageOf (M .tables) a
 
     abbrev pub rules : List ℕ
     rules = wordsAt (U F es) es k
 
-    pub law : Lawful (seen F es p v) 4 (z .frames)
-    law = view-lawful (U F es) es p v tables64-sound
+    pub law : Lawful (seen F es p v) (M .tables .levels) (M .frames)
+    law = view-lawful (U F es) es p v (h .laid .sound)
 
-    pub reads : (w : Walk) → seen F es p v .steps k w ≡ step tables64 (z .frames) w (get tables64 rules (w .frame .0) (index tables64 v (w .level)))
+    pub reads : (w : Walk) → seen F es p v .steps k w ≡ step (M .tables) (M .frames) w (get (M .tables) rules (w .frame .0) (index (M .tables) v (w .level)))
     unfolding viewOf
     reads w = refl
 
-    begins : Kept (seen F es p v) k (start tables64 (guest (shd M (s .shadow) (rootOf M p))))
+    begins : Kept (seen F es p v) k (start (M .tables) (guest (shd M (s .shadow) (rootOf M p))))
     unfolding viewOf
-    begins = begin (ap (λ (n : ℕ). start tables64 (guest n)) (h .roots p hp′))
+    begins = begin (ap (λ (n : ℕ). start (M .tables) (guest n)) (h .roots p hp′))
 
     -- IT ENDS IN A HELD WALK, or a held walk faults as it does
-    pub walk-ends : Ends (seen F es p v) (z .frames) v k rules law reads (walked z map p a b s .ended)
+    pub walk-ends : Ends (M .tables) (h .laid .sound) (seen F es p v) (M .frames) v k rules law reads (walked M map p a b s .ended)
     walk-ends =
-        walks (seen F es p v) (z .frames) v k rules law reads 4 (s .words) (guest (shd M (s .shadow) (rootOf M p)))
-        (start tables64 (guest (shd M (s .shadow) (rootOf M p)))) (h .words) begins refl .ended
+        walks (M .tables) (h .laid .sound) (seen F es p v) (M .frames) v k rules law reads (M .tables .levels) (s .words) (guest (shd M (s .shadow) (rootOf M p)))
+        (start (M .tables) (guest (shd M (s .shadow) (rootOf M p)))) (h .words) begins refl .ended
 
-    ended-whole : {x : Walked} → Ends (seen F es p v) (z .frames) v k rules law reads x → (last : Guest) (w : Walk) → x ≡ Whole last w
+    ended-whole : {x : Walked} → Ends (M .tables) (h .laid .sound) (seen F es p v) (M .frames) v k rules law reads x → (last : Guest) (w : Walk) → x ≡ Whole last w
         → Kept (seen F es p v) k w × (w .level ≡ 0)
     ended-whole (whole {w = w′} held done) last w q = let e : w′ ≡ w = cc in (rw e at held, rw e at done)
     ended-whole (absent c held gone) last w q = let n : _≡_ {A = ℕ} 0 1 = cc in absurd (omega arith)
     ended-whole (beyond c held gone) last w q = let n : _≡_ {A = ℕ} 0 1 = cc in absurd (omega arith)
 
-    pub walk-held : (last : Guest) (w : Walk) → walked z map p a b s .ended ≡ Whole last w → Kept (seen F es p v) k w × (w .level ≡ 0)
+    pub walk-held : (last : Guest) (w : Walk) → walked M map p a b s .ended ≡ Whole last w → Kept (seen F es p v) k w × (w .level ≡ 0)
     walk-held last w q = ended-whole walk-ends last w q
 
   -- ---- after an access
@@ -92,19 +87,19 @@ module _ (F : Fresh) (es : List Event) (k : ℕ) (s : State) (h : Holds F es k s
     p = e .proc
 
     abbrev page : ℕ
-    page = pageOf tables64 (e .a)
+    page = pageOf (M .tables) (e .a)
 
-    own : p < z .processors
+    own : p < M .processors
     own = hp F es k s h ok
 
-    room : Sized z
+    room : Able M
     room = sized F es k s h ok
 
-    maps : Mapped z map
+    maps : Mapped M map
     maps = fits F es k s h ok
 
-    pub spare : 4 ≤ z .share
-    spare = accepted-ranged (machine64 z) map s e ok .share .0
+    pub spare : M .tables .levels ≤ M .share
+    spare = accepted-ranged M map s e ok .share .0
 
     two : e .kind ≡ 2 → ⊥
     two x = omega arith
@@ -112,21 +107,21 @@ module _ (F : Fresh) (es : List Event) (k : ℕ) (s : State) (h : Holds F es k s
     three : e .kind ≡ 3 → ⊥
     three x = omega arith
 
-    module _ (last : Guest) (w : Walk) (q : walked z map p (e .a) (e .b) s .ended ≡ Whole last w) where
+    module _ (last : Guest) (w : Walk) (q : walked M map p (e .a) (e .b) s .ended ≡ Whole last w) where
       abbrev f : State
-      f = fill M map p page (marked z map p (e .a) (e .b) s last)
+      f = fill M map p page (marked M map p (e .a) (e .b) s last)
 
-      done : Fills z room spare map maps p own (marked z map p (e .a) (e .b) s last) (marked-right z map p (e .a) (e .b) s room spare maps own (h .right) last w q) page (page-small (e .a))
-          last (w .frame) (w .rights) (marked-leads z map p (e .a) (e .b) s last w q) f
-      done = filling z map p (e .a) (e .b) s room spare maps own (h .right) last w q
+      done : Fills M room spare map maps p own (marked M map p (e .a) (e .b) s last) (marked-right M map p (e .a) (e .b) s room spare maps own (h .right) last w q) page (page-small (M .tables) (e .a))
+          last (w .frame) (w .rights) (marked-leads M map p (e .a) (e .b) s (room .sound) last w q) f
+      done = filling M map p (e .a) (e .b) s room spare maps own (h .right) last w q
 
       -- the page's own path is a walk of the guest's tables as they are
       own-path : Pathed F es (suc k) f p page
       own-path = record {
         full = λ here. record {
           frame = w .frame;
-          inside = end-inside z map p (e .a) (e .b) s room spare maps own (h .right) last w q;
-          mapped = end-frame z map p (e .a) (e .b) s room spare maps own (h .right) last w q;
+          inside = end-inside M map p (e .a) (e .b) s room spare maps own (h .right) last w q;
+          mapped = end-frame M map p (e .a) (e .b) s room spare maps own (h .right) last w q;
           backed =
               let held = walk-held p own (e .a) (e .b) last w q in
               stay-backed F es p page k (quiet-unended F es p page k two three) (record {
@@ -134,54 +129,55 @@ module _ (F : Fresh) (es : List Event) (k : ℕ) (s : State) (h : Holds F es k s
                 kept = held .0;
                 complete = held .1;
                 frame = refl;
-                covers = end-covers z map p (e .a) (e .b) s room spare maps own (h .right) last w q;
+                covers = end-covers M map p (e .a) (e .b) s room spare maps own (h .right) last w q;
               });
         };
       }
 
-      other-path : (r : ℕ) → r < z .processors → (u : ℕ) → u < 2 ^ 36 → (r ≡ p → u ≡ page → ⊥) → Pathed F es (suc k) f r u
+      other-path : (r : ℕ) → r < M .processors → (u : ℕ) → u < 2 ^ (M .tables .indexBits * M .tables .levels) → (r ≡ p → u ≡ page → ⊥) → Pathed F es (suc k) f r u
       other-path r hr u hu ne = record {
         full = λ here.
             same-path F es f (done .built .old .full r hr u hu ne here)
             (stay-path F es (quiet-unended F es r u k two three) (h .paths r hr u hu)) .full here;
       }
 
-      same : (r : ℕ) → r < z .processors → (j : ℕ) → j < slotCount → SameSlot (s .slots) (f .slots) r j → Slotted F es (suc k) f r j
+      same : (r : ℕ) → r < M .processors → (j : ℕ) → j < slotCount → SameSlot (s .slots) (f .slots) r j → Slotted F es (suc k) f r j
       same r hr j hj eq =
           same-slot F es f eq
           (stay-slot F es (quiet-unended F es r (pageIn (s .slots) r j) k two three) (h .slots r hr j hj))
 
       filled : After F es k s h ok f
       filled right size = record {
+        laid = h .laid;
         right = right;
         size = size;
-        words = rw (done .words) (kept-words F es k s h ok (λ x. omega arith) (marked-same z map p (e .a) (e .b) s last));
+        words = rw (done .words) (kept-words F es k s h ok (λ x. omega arith) (marked-same M map p (e .a) (e .b) s (h .laid .sound) last));
         roots = λ r hr. root r hr (ℕ-discrete r p) ∙ h .roots r hr ∙ ap (λ (g : Guest). g .0) (sym (cr3-kept F es k r three));
         paths = λ r hr u hu. path r hr u hu (ℕ-discrete r p) (ℕ-discrete u page);
         slots = λ r hr j hj. slotted r hr j hj (ℕ-discrete r p);
       }
         where
-          root : (r : ℕ) → r < z .processors → Dec (r ≡ p) → shd M (f .shadow) (rootOf M r) ≡ shd M (s .shadow) (rootOf M r)
+          root : (r : ℕ) → r < M .processors → Dec (r ≡ p) → shd M (f .shadow) (rootOf M r) ≡ shd M (s .shadow) (rootOf M r)
           root r hr (yes a) = rw a (done .built .stays .root)
           root r hr (no a) =
-              done .built .stays .others (rootOf M r) (root-table M (able z room map maps) r hr) (λ x. a (sym (root-owner M (able z room map maps) r) ∙ x)) .frame
+              done .built .stays .others (rootOf M r) (root-table M room r hr) (λ x. a (sym (root-owner M room r) ∙ x)) .frame
 
-          path : (r : ℕ) → r < z .processors → (u : ℕ) → u < 2 ^ 36 → Dec (r ≡ p) → Dec (u ≡ page) → Pathed F es (suc k) f r u
+          path : (r : ℕ) → r < M .processors → (u : ℕ) → u < 2 ^ (M .tables .indexBits * M .tables .levels) → Dec (r ≡ p) → Dec (u ≡ page) → Pathed F es (suc k) f r u
           path r hr u hu (yes a) (yes b) = rw (a, b) own-path
           path r hr u hu (no a) d = other-path r hr u hu (λ x y. a x)
           path r hr u hu (yes a) (no b) = other-path r hr u hu (λ x y. b y)
 
-          slotted : (r : ℕ) → r < z .processors → (j : ℕ) → j < slotCount → Dec (r ≡ p) → Slotted F es (suc k) f r j
+          slotted : (r : ℕ) → r < M .processors → (j : ℕ) → j < slotCount → Dec (r ≡ p) → Slotted F es (suc k) f r j
           slotted r hr j hj (no a) = same r hr j hj (done .beside r a j hj)
           slotted r hr j hj (yes a) = rw a
               (by-cases (done .own j hj) (λ x. no-slot F es (λ m. omega (arith, x .mark))) (λ x. same p own j hj (x .0)))
 
-    way : {out : Result} → Way z map p (e .a) (e .b) s out → After F es k s h ok (out .state)
-    way (slot j hj v o) = rw o (still F es k s h ok (λ x. omega arith) two three (s .words) (same-refl (s .words)))
-    way (shadow x v o) = rw o (still F es k s h ok (λ x. omega arith) two three (s .words) (same-refl (s .words)))
-    way (fault base x o) = rw o (still F es k s h ok (λ x. omega arith) two three (walked z map p (e .a) (e .b) s .words) (trod-same z map p (e .a) (e .b) s))
-    way (lacks last w x v o) = rw o (still F es k s h ok (λ x. omega arith) two three (walked z map p (e .a) (e .b) s .words) (trod-same z map p (e .a) (e .b) s))
+    way : {out : Result} → Way M map p (e .a) (e .b) s out → After F es k s h ok (out .state)
+    way (slot j hj v o) = rw o (still F es k s h ok (λ x. omega arith) two three (s .words) (same-refl (M .tables) (s .words)))
+    way (shadow x v o) = rw o (still F es k s h ok (λ x. omega arith) two three (s .words) (same-refl (M .tables) (s .words)))
+    way (fault base x o) = rw o (still F es k s h ok (λ x. omega arith) two three (walked M map p (e .a) (e .b) s .words) (trod-same M map p (e .a) (e .b) s (h .laid .sound)))
+    way (lacks last w x v o) = rw o (still F es k s h ok (λ x. omega arith) two three (walked M map p (e .a) (e .b) s .words) (trod-same M map p (e .a) (e .b) s (h .laid .sound)))
     way (again last w x v o) = rw o (filled last w x)
 
     pub accessed : After F es k s h ok (afterAccess M map p (e .a) (e .b) s .state)
-    accessed = way (ways z map p (e .a) (e .b) s)
+    accessed = way (ways M map p (e .a) (e .b) s)

@@ -1,69 +1,65 @@
 -- Between the puts: what may stand there leaves the page's path as it is.
 use mathlib.Core.Path.{_≡_, refl, sym, ap, _∙_}
 use mathlib.Core.List.{List}
-use Prim.Native.Nat.{ℕ, _≤_, _<_}
+use Prim.Native.Nat.{ℕ, _-_, _≤_, _<_}
 use native.Mathlib.Omega.{arith}
 use lib.Dec.{T}
 use borrow.Author.Tests.{eq-eqb, ne-eqb}
 use Rattle.paging.specs.declared.Request.{Request}
-use Rattle.paging.specs.Layout.{tables64, rightsOf, isPresent}
+use Rattle.paging.specs.Layout.{rightsOf, isPresent}
 use Rattle.paging.specs.Request.{enough}
 use Rattle.paging.specs.Walk.{meet}
 use Rattle.rules.specs.declared.Event.{Event}
-use Rattle.tables.specs.declared.Sizes.{Sizes}
-use Rattle.tables.specs.State.{Machine, Shadow, State, machine64, tableCount, ownerOf, nextEntry, pathTo, Sized}
+use Rattle.tables.specs.State.{Machine, Shadow, State, tableCount, ownerOf, nextEntry, pathTo}
 use Rattle.tables.proofs.Counts.{by-cases}
 use Rattle.shadow.specs.After.{Result, callRefusal, after, afterBegin, afterLoss}
-use Rattle.shadow.proofs.Accepted.{accepted-ranged, accepted-sized, accepted-own}
-use Rattle.trees.proofs.Trees.{Same, Trees}
+use Rattle.shadow.proofs.Accepted.{accepted-ranged, accepted-own}
+use Rattle.trees.proofs.Trees.{Laid, Able, Same, Trees}
 use Rattle.trees.proofs.Paths.{same-path, same-entry}
-use Rattle.keeps.proofs.Right.{Mapped, Right, able}
+use Rattle.keeps.proofs.Right.{Mapped, Right}
 use Rattle.keeps.proofs.Moves.{extends}
 use Rattle.keeps.proofs.Takes.{invlpg-reshapes, cr3-reshapes}
 use Rattle.keeps.proofs.Accesses.{Way, slot, shadow, fault, lacks, again, ways, filling-reshapes}
 use Rattle.keeps.proofs.Again.{Serves}
-use Rattle.keeps.proofs.Events.{accepted-mapped, accepted-right, Kind, store, invlpg, cr3, access, begin, extend, loss, kinds}
+use Rattle.keeps.proofs.Events.{accepted-mapped, accepted-able, accepted-right, Kind, store, invlpg, cr3, access, begin, extend, loss, kinds}
 use Rattle.promise.specs.Demand.{mayStandBetween}
 
 -- the page's path serves in any state with the same tables
-pub serves-by : (z : Sizes) (p page : ℕ) (q : Request) (s s′ : State) → s′ .shadow ≡ s .shadow → Serves z s p page q → Serves z s′ p page q
-serves-by z p page q s s′ e sv = record {
-  here = ap (λ (x : Shadow). isPresent (nextEntry (machine64 z) (x .pool) page (pathTo (machine64 z) (x .pool) p page 1))) e ∙ sv .here;
+pub serves-by : (M : Machine) (p page : ℕ) (q : Request) (s s′ : State) → s′ .shadow ≡ s .shadow → Serves M s p page q → Serves M s′ p page q
+serves-by M p page q s s′ e sv = record {
+  here = ap (λ (x : Shadow). isPresent (nextEntry M (x .pool) page (pathTo M (x .pool) p page 1))) e ∙ sv .here;
   good =
-      ap (λ (x : Shadow). enough q (meet (pathTo (machine64 z) (x .pool) p page 1 .rights) (rightsOf tables64 (nextEntry (machine64 z) (x .pool) page (pathTo (machine64 z) (x .pool) p page 1))))) e
+      ap (λ (x : Shadow). enough q (meet (pathTo M (x .pool) p page 1 .rights) (rightsOf (M .tables) (nextEntry M (x .pool) page (pathTo M (x .pool) p page 1))))) e
       ∙ sv .good;
 }
 
-module _ (z : Sizes) (map : List ℕ) (s : State) (e : Event) (ok : callRefusal (machine64 z) map s e ≡ 0) (p page : ℕ) (hp : p < z .processors) (q : Request)
-    (sv : Serves z s p page q) where
-  abbrev M : Machine
-  M = machine64 z
+module _ (M : Machine) (map : List ℕ) (s : State) (e : Event) (laid : Laid (M .tables)) (ok : callRefusal M map s e ≡ 0) (p page : ℕ) (hp : p < M .processors) (q : Request)
+    (sv : Serves M s p page q) where
+  sized : Able M
+  sized = accepted-able M map s e ok laid
 
-  sized : Sized z
-  sized = accepted-sized z map s e ok
+  fits : Mapped M map
+  fits = accepted-mapped M map s e ok
 
-  fits : Mapped z map
-  fits = accepted-mapped z map s e ok
+  right : Right M map s
+  right = accepted-right M map s e ok laid
 
-  right : Right z map s
-  right = accepted-right z map s e ok
+  by : e .proc < M .processors
+  by = accepted-own M map s e ok
 
-  by : e .proc < z .processors
-  by = accepted-own (machine64 z) map s e ok
-
-  spare : 4 ≤ z .share
-  spare = accepted-ranged (machine64 z) map s e ok .share .0
+  spare : M .tables .levels ≤ M .share
+  spare = accepted-ranged M map s e ok .share .0
 
   -- another processor's work on its own tables
   apart : (s′ : State) → Trees M map (s′ .shadow) → (e .proc ≡ p → ⊥)
-      → ((v : ℕ) → v < tableCount M → (ownerOf M v ≡ e .proc → ⊥) → Same M (s .shadow) (s′ .shadow) v) → Serves z s′ p page q
+      → ((v : ℕ) → v < tableCount M → (ownerOf M v ≡ e .proc → ⊥) → Same M (s .shadow) (s′ .shadow) v) → Serves M s′ p page q
   apart s′ trees ne others =
       let same : (v : ℕ) → v < tableCount M → ownerOf M v ≡ p → Same M (s .shadow) (s′ .shadow) v = λ v hv o. others v hv (λ x. ne (sym x ∙ o)) in
-      let path = same-path M (able z sized map fits) map (fits .outside) (s .shadow) (s′ .shadow) (right .law .trees) (trees .exact) page p hp same 3 (omega arith) in
-      let end = same-entry M (able z sized map fits) map (fits .outside) (s .shadow) (s′ .shadow) (right .law .trees) (trees .exact) page p hp same 3 (omega arith) in
+      let path = same-path M sized map (fits .outside) (s .shadow) (s′ .shadow) (right .law .trees) (trees .exact) page p hp same (M .tables .levels - 1) (omega (arith, laid .upper)) in
+      let end = same-entry M sized map (fits .outside) (s .shadow) (s′ .shadow) (right .law .trees) (trees .exact) page p hp same (M .tables .levels - 1) (omega (arith, laid .upper)) in
       record {
         here = ap isPresent end ∙ sv .here;
-        good = (λ i. enough q (meet (path i .rights) (rightsOf tables64 (end i)))) ∙ sv .good;
+        good = (λ i. enough q (meet (path i .rights) (rightsOf (M .tables) (end i)))) ∙ sv .good;
       }
 
   -- INVLPG, CR3 write and access stand between only by others
@@ -77,30 +73,30 @@ module _ (z : Sizes) (map : List ℕ) (s : State) (e : Event) (ok : callRefusal 
         ne-eqb (e .kind) 7 (λ y. d (sym x ∙ y)),
       ) at t
 
-  way : (e .proc ≡ p → ⊥) → {out : Result} → Way z map (e .proc) (e .a) (e .b) s out → Serves z (out .state) p page q
+  way : (e .proc ≡ p → ⊥) → {out : Result} → Way M map (e .proc) (e .a) (e .b) s out → Serves M (out .state) p page q
   way ne (slot k h x o) = rw o sv
   way ne (shadow h x o) = rw o sv
-  way ne (fault base x o) = rw o (serves-by z p page q s _ refl sv)
-  way ne (lacks last w x y o) = rw o (serves-by z p page q s _ refl sv)
+  way ne (fault base x o) = rw o (serves-by M p page q s _ refl sv)
+  way ne (lacks last w x y o) = rw o (serves-by M p page q s _ refl sv)
   way ne (again last w x y o) =
-      let f = filling-reshapes z map (e .proc) (e .a) (e .b) s sized spare fits by right last w x in
+      let f = filling-reshapes M map (e .proc) (e .a) (e .b) s sized spare fits by right last w x in
       rw o (apart _ (f .trees) ne (f .others))
 
-  kept : T (mayStandBetween p e) → {out : Result} → Kind z map s e out → Serves z (out .state) p page q
-  kept t (store x h o) = rw o (serves-by z p page q s _ refl sv)
-  kept t (begin x h o) = rw o (serves-by z p page q s _ (unfold afterBegin in refl) sv)
-  kept t (loss x h o) = rw o (serves-by z p page q s _ (unfold afterLoss in refl) sv)
+  kept : T (mayStandBetween p e) → {out : Result} → Kind M map s e out → Serves M (out .state) p page q
+  kept t (store x h o) = rw o (serves-by M p page q s _ refl sv)
+  kept t (begin x h o) = rw o (serves-by M p page q s _ (unfold afterBegin in refl) sv)
+  kept t (loss x h o) = rw o (serves-by M p page q s _ (unfold afterLoss in refl) sv)
   kept t (extend x h o) = rw o
-      (by-cases (extends z sized map fits (e .proc) by s right (e .a) h)
-      (λ y. serves-by z p page q s _ (ap (λ (u : State). u .shadow) y) sv)
-      (λ m. serves-by z p page q s _ (ap (λ (u : State). u .shadow) (m .is)) sv))
+      (by-cases (extends M sized map fits (e .proc) by s right (e .a) h)
+      (λ y. serves-by M p page q s _ (ap (λ (u : State). u .shadow) y) sv)
+      (λ m. serves-by M p page q s _ (ap (λ (u : State). u .shadow) (m .is)) sv))
   kept t (invlpg x o) =
-      let f = invlpg-reshapes z sized map fits (e .proc) by s right (e .a) in
+      let f = invlpg-reshapes M sized map fits (e .proc) by s right (e .a) in
       rw o (apart _ (f .trees) (by-others 2 x (λ y. omega arith) (λ y. omega arith) (λ y. omega arith) (λ y. omega arith) t) (f .others))
   kept t (cr3 x h o) =
-      let f = cr3-reshapes z sized map fits (e .proc) by s right (e .a) h in
+      let f = cr3-reshapes M sized map fits (e .proc) by s right (e .a) h in
       rw o (apart _ (f .trees) (by-others 3 x (λ y. omega arith) (λ y. omega arith) (λ y. omega arith) (λ y. omega arith) t) (f .others))
-  kept t (access x h o) = rw o (way (by-others 4 x (λ y. omega arith) (λ y. omega arith) (λ y. omega arith) (λ y. omega arith) t) (ways z map (e .proc) (e .a) (e .b) s))
+  kept t (access x h o) = rw o (way (by-others 4 x (λ y. omega arith) (λ y. omega arith) (λ y. omega arith) (λ y. omega arith) t) (ways M map (e .proc) (e .a) (e .b) s))
 
-  pub serves-still : T (mayStandBetween p e) → Serves z (after M map s e .state) p page q
-  serves-still t = kept t (kinds z map s e ok)
+  pub serves-still : T (mayStandBetween p e) → Serves M (after M map s e .state) p page q
+  serves-still t = kept t (kinds M map s e ok)

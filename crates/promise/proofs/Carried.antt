@@ -8,15 +8,15 @@ use Rattle.tables.specs.State.{State}
 use Rattle.shadow.specs.After.{Result, callRefusal, after}
 use Rattle.keeps.proofs.Events.{Kind, store, invlpg, cr3, access, begin, extend, loss, kinds}
 use Rattle.keeps.proofs.Theorems.{right-after, words-after}
-use Rattle.promise.specs.Demand.{Fresh, machineOf}
+use Rattle.promise.specs.Demand.{Fresh}
 use Rattle.promise.proofs.Holds.{Holds}
 use Rattle.promise.proofs.Carries.{After, stored, invalidated, written, begun, lost}
 use Rattle.promise.proofs.Extended.{extended}
 use Rattle.promise.proofs.Accessed.{accessed}
 
 module _ (F : Fresh) (es : List Event) (k : ℕ) (s : State) (h : Holds F es k s)
-    (ok : callRefusal (machineOf F) (F .map) s (eventAt es k) ≡ 0) where
-  by-kind : {out : Result} → Kind (F .sizes) (F .map) s (eventAt es k) out → After F es k s h ok (out .state)
+    (ok : callRefusal (F .machine) (F .map) s (eventAt es k) ≡ 0) where
+  by-kind : {out : Result} → Kind (F .machine) (F .map) s (eventAt es k) out → After F es k s h ok (out .state)
   by-kind (store q b o) = rw o (stored F es k s h ok q)
   by-kind (invlpg q o) = rw o (invalidated F es k s h ok q)
   by-kind (cr3 q b o) = rw o (written F es k s h ok q b)
@@ -25,7 +25,7 @@ module _ (F : Fresh) (es : List Event) (k : ℕ) (s : State) (h : Holds F es k s
   by-kind (extend q b o) = rw o (extended F es k s h ok q b)
   by-kind (loss q b o) = rw o (lost F es k s h ok q b)
 
-  pub carried : Holds F es (suc k) (after (machineOf F) (F .map) s (eventAt es k) .state)
+  pub carried : Holds F es (suc k) (after (F .machine) (F .map) s (eventAt es k) .state)
   carried =
-      by-kind (kinds (F .sizes) (F .map) s (eventAt es k) ok) (right-after (F .sizes) (F .map) s (eventAt es k) ok)
-      (words-after (F .sizes) (F .map) s (eventAt es k) ok)
+      by-kind (kinds (F .machine) (F .map) s (eventAt es k) ok) (right-after (F .machine) (F .map) s (eventAt es k) (h .laid) ok)
+      (words-after (F .machine) (F .map) s (eventAt es k) (h .laid) ok)

@@ -2,42 +2,39 @@
 use mathlib.Core.Path.{_≡_, refl, sym, ap, subst, _∙_}
 use mathlib.Core.List.{List}
 use mathlib.Core.Bool.{true}
-use Prim.Native.Nat.{ℕ, suc, _-_, _^_, _<_}
+use Prim.Native.Nat.{ℕ, suc, _-_, _*_, _^_, _<_}
 use native.Mathlib.Omega.{arith}
 use Rattle.paging.specs.declared.Guest.{Guest}
 use Rattle.paging.specs.declared.Origin.the-variants.{Of}
 use Rattle.paging.specs.Frame.{guest, host, hostOf, originOf}
-use Rattle.paging.specs.Layout.{tables64, frameOf, rightsOf, isPresent}
+use Rattle.paging.specs.Layout.{frameOf, rightsOf, isPresent}
 use Rattle.paging.specs.Walk.{meet}
 use Rattle.paging.proofs.Frames.{fits-distinct, origin-host}
 use Rattle.paging.proofs.Rights.{meet-small}
 use Rattle.rules.specs.declared.Event.{Event}
 use Rattle.rules.specs.History.{eventAt}
 use Rattle.rules.specs.View.{View}
-use Rattle.tables.specs.declared.Sizes.{Sizes}
-use Rattle.tables.specs.State.{machine64, Machine, State, stateOf, markOf, pageIn, placeIn, rightsIn, withSlot, nextEntry, pathTo, Sized}
+use Rattle.tables.specs.State.{Machine, State, stateOf, markOf, pageIn, placeIn, rightsIn, withSlot, nextEntry, pathTo}
 use Rattle.tables.proofs.Counts.{by-cases}
 use Rattle.shadow.specs.After.{afterExtend, callRefusal}
 use Rattle.shadow.proofs.Accepted.{accepted-map}
+use Rattle.trees.proofs.Trees.{Able}
 use Rattle.trees.proofs.Slots.{Room, with-other, with-mark, with-page, with-place, with-rights}
 use Rattle.keeps.proofs.Alikes.{same-refl}
 use Rattle.keeps.proofs.Right.{Mapped}
 use Rattle.keeps.proofs.Moves.{paged, Moves, extends, place-complete}
-use Rattle.promise.specs.Demand.{Fresh, machineOf}
+use Rattle.promise.specs.Demand.{Fresh}
 use Rattle.promise.proofs.Settles.{Backed}
 use Rattle.promise.proofs.Holds.{seen, Holds, Behind, stay-backed, quiet-unended}
 use Rattle.promise.proofs.Carries.{After, sized, fits, hp, here, one-slot, still}
 
 module _ (F : Fresh) (es : List Event) (k : ℕ) (s : State) (h : Holds F es k s)
-    (ok : callRefusal (machineOf F) (F .map) s (eventAt es k) ≡ 0) (six : eventAt es k .kind ≡ 6) (low : eventAt es k .a < 8) where
-  abbrev z : Sizes
-  z = F .sizes
+    (ok : callRefusal (F .machine) (F .map) s (eventAt es k) ≡ 0) (six : eventAt es k .kind ≡ 6) (low : eventAt es k .a < 8) where
+  abbrev M : Machine
+  M = F .machine
 
   abbrev map : List ℕ
   map = F .map
-
-  abbrev M : Machine
-  M = machineOf F
 
   abbrev e : Event
   e = eventAt es k
@@ -66,15 +63,15 @@ module _ (F : Fresh) (es : List Event) (k : ℕ) (s : State) (h : Holds F es k s
   entryAt l = nextEntry M (s .shadow .pool) v (pathTo M (s .shadow .pool) p v l)
 
   abbrev rightsAt : ℕ → ℕ
-  rightsAt l = meet (pathTo M (s .shadow .pool) p v l .rights) (rightsOf tables64 (entryAt l))
+  rightsAt l = meet (pathTo M (s .shadow .pool) p v l .rights) (rightsOf (M .tables) (entryAt l))
 
-  room : Sized z
+  room : Able M
   room = sized F es k s h ok
 
-  maps : Mapped z map
+  maps : Mapped M map
   maps = fits F es k s h ok
 
-  own : p < z .processors
+  own : p < M .processors
   own = hp F es k s h ok
 
   space : Room (s .slots) p
@@ -89,15 +86,15 @@ module _ (F : Fresh) (es : List Event) (k : ℕ) (s : State) (h : Holds F es k s
   three : e .kind ≡ 3 → ⊥
   three x = omega arith
 
-  module _ (m : Moves z room map maps p own s (h .right) i low s′) where
+  module _ (m : Moves M room map maps p own s (h .right) i low s′) where
     -- the guest frame that the slot comes to stand on is the one behind the path
-    frame-is : level ≡ 1 → (b : Behind F es p v k (frameOf tables64 (entryAt 1)) (rightsAt 1)) → guest (m .place) ≡ b .frame
+    frame-is : level ≡ 1 → (b : Behind F es p v k (frameOf (M .tables) (entryAt 1)) (rightsAt 1)) → guest (m .place) ≡ b .frame
     frame-is last b =
-        let o = place-complete z room map maps p own s (h .right) i low level (m .place) last (m .at) in
-        let q : originOf map (host (frameOf tables64 (entryAt 1))) ≡ Of (guest (m .place)) =
-        subst (λ (l : ℕ). originOf map (host (frameOf tables64 (entryAt l))) ≡ Of (guest (m .place))) last o in
+        let o = place-complete M room map maps p own s (h .right) i low level (m .place) last (m .at) in
+        let q : originOf map (host (frameOf (M .tables) (entryAt 1))) ≡ Of (guest (m .place)) =
+        subst (λ (l : ℕ). originOf map (host (frameOf (M .tables) (entryAt l))) ≡ Of (guest (m .place))) last o in
         let d : originOf map (hostOf map (b .frame)) ≡ Of (b .frame) =
-        origin-host map (fits-distinct (2 ^ 40) map (accepted-map (machine64 z) map s e ok)) (b .frame) (rw (maps .guests) (b .inside)) in
+        origin-host map (fits-distinct (2 ^ M .tables .frameBits) map (accepted-map M map s e ok)) (b .frame) (rw (maps .guests) (b .inside)) in
         let x : Of (guest (m .place)) ≡ Of (b .frame) = sym q ∙ ap (λ (f : ℕ). originOf map (host f)) (b .mapped) ∙ d in
         cc
 
@@ -112,7 +109,7 @@ module _ (F : Fresh) (es : List Event) (k : ℕ) (s : State) (h : Holds F es k s
     holds complete =
         let last : level ≡ 1 = sym (with-mark p i level v (m .place) rights (s .slots) low space) ∙ complete in
         let there : isPresent (entryAt 1) ≡ true = subst (λ (l : ℕ). isPresent (entryAt l) ≡ true) last (m .present) in
-        let b = h .paths p own v (paged z room map maps p own s (h .right) i low) .full there in
+        let b = h .paths p own v (paged M room map maps p own s (h .right) i low) .full there in
         let now : Backed view (suc k) (b .frame) (rightsAt 1) = stay-backed F es p v k (quiet-unended F es p v k two three) (b .backed) in
         let at-l : Backed view (suc k) (b .frame) rights = subst (λ (l : ℕ). Backed view (suc k) (b .frame) (rightsAt l)) (sym last) now in
         subst (λ (u : ℕ). Backed (seen F es p u) (suc k) (guest (placeIn slots′ p i)) (rightsIn slots′ p i))
@@ -131,6 +128,6 @@ module _ (F : Fresh) (es : List Event) (k : ℕ) (s : State) (h : Holds F es k s
 
   pub extended : After F es k s h ok s′
   extended =
-      by-cases (extends z room map maps p own s (h .right) i low)
-      (λ q. rw q (still F es k s h ok one two three (s .words) (same-refl (s .words))))
+      by-cases (extends M room map maps p own s (h .right) i low)
+      (λ q. rw q (still F es k s h ok one two three (s .words) (same-refl (M .tables) (s .words))))
       (λ m. rw (m .is) (moved m))

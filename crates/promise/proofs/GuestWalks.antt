@@ -2,55 +2,58 @@
 -- its end is a held walk, or a held walk faults as it does.
 use mathlib.Core.Path.{_≡_, refl, sym, _∙_}
 use mathlib.Core.List.{List}
+use mathlib.Core.Logic.{inl}
 use Prim.Native.Nat.{ℕ, zero, suc}
 use native.Mathlib.Omega.{arith}
 use Rattle.paging.specs.declared.Guest.{Guest}
 use Rattle.paging.specs.declared.Walk.{Walk}
 use Rattle.paging.specs.declared.Step.{Step}
 use Rattle.paging.specs.declared.Step.the-variants.{On, Absent, Beyond, Complete}
-use Rattle.paging.specs.Layout.{tables64, get, put, index, markA}
+use Rattle.paging.specs.Layout.{Layout, get, put, index, markA}
 use Rattle.paging.specs.Walk.{step}
+use Rattle.paging.proofs.Layouts.{Sound}
+use Rattle.paging.proofs.Indices.{index-small}
 use Rattle.rules.specs.View.{View}
 use Rattle.rules.proofs.Lawful.{Lawful}
 use Rattle.rules.proofs.Steps.{Kept, extend}
 use Rattle.tables.specs.declared.Walked.{Walked}
 use Rattle.tables.specs.declared.Walked.the-variants.{Whole, Fault}
 use Rattle.tables.specs.Steps.{Trod, byStep, walkFrom}
-use Rattle.keeps.proofs.Alikes.{Same, same-trans, same-mark-a, same-step}
+use Rattle.keeps.proofs.Alikes.{Same, same-trans, same-mark, same-step}
 
-module _ (seen : View) (G page k : ℕ) (rules : List ℕ) (law : Lawful seen 4 G)
-    (reads : (w : Walk) → seen .steps k w ≡ step tables64 G w (get tables64 rules (w .frame .0) (index tables64 page (w .level)))) where
+module _ (Y : Layout) (sound : Sound Y) (seen : View) (G page k : ℕ) (rules : List ℕ) (law : Lawful seen (Y .levels) G)
+    (reads : (w : Walk) → seen .steps k w ≡ step Y G w (get Y rules (w .frame .0) (index Y page (w .level)))) where
   pub data Ends : Walked → Type 0 where
     whole : {last : Guest} {w : Walk} → Kept seen k w → w .level ≡ 0 → Ends (Whole last w)
     absent : {w : Walk} {c : ℕ} → c ≡ 0 → Kept seen k w → seen .steps k w ≡ Absent → Ends (Fault c)
     beyond : {w : Walk} {c : ℕ} → c ≡ 9 → Kept seen k w → seen .steps k w ≡ Beyond → Ends (Fault c)
 
   pub record Walks (t : Trod) : Type 0 where
-    pub words : Same (t .words) rules
+    pub words : Same Y (t .words) rules
     pub ended : Ends (t .ended)
 
-  pub walks : (n : ℕ) (words : List ℕ) (last : Guest) (w : Walk) → Same words rules → Kept seen k w → w .level ≡ n
-      → Walks (walkFrom tables64 G page n words last w)
+  pub walks : (n : ℕ) (words : List ℕ) (last : Guest) (w : Walk) → Same Y words rules → Kept seen k w → w .level ≡ n
+      → Walks (walkFrom Y G page n words last w)
   unfolding walkFrom
   walks zero words last w s h z = record { words = s; ended = whole h z }
   walks (suc n) words last w s h z =
-      by (step tables64 G w e) refl
-      (λ w′ q. walks n (put tables64 words (w .frame .0) i (markA e)) (w .frame) w′ (same-trans (same-mark-a words (w .frame .0) i) s)
+      by (step Y G w e) refl
+      (λ w′ q. walks n (put Y words (w .frame .0) i (markA e)) (w .frame) w′ (same-trans Y (same-mark Y sound 5 (inl refl) words (w .frame .0) i (index-small Y page (w .level))) s)
       (extend h (same q)) (omega (arith, law .down k w w′ (same q) .level)))
     where
       i : ℕ
-      i = index tables64 page (w .level)
+      i = index Y page (w .level)
 
       e : ℕ
-      e = get tables64 words (w .frame .0) i
+      e = get Y words (w .frame .0) i
 
       -- what the machine sees is what the view sees
-      same : {r : Step} → step tables64 G w e ≡ r → seen .steps k w ≡ r
-      same q = reads w ∙ sym (same-step s G w (w .frame .0) i) ∙ q
+      same : {r : Step} → step Y G w e ≡ r → seen .steps k w ≡ r
+      same q = reads w ∙ sym (same-step Y sound s G w (w .frame .0) i (index-small Y page (w .level))) ∙ q
 
-      by : (r : Step) → step tables64 G w e ≡ r
-          → ((w′ : Walk) → step tables64 G w e ≡ On w′ → Walks (walkFrom tables64 G page n (put tables64 words (w .frame .0) i (markA e)) (w .frame) w′))
-          → Walks (byStep words last w (λ w′. walkFrom tables64 G page n (put tables64 words (w .frame .0) i (markA e)) (w .frame) w′) r)
+      by : (r : Step) → step Y G w e ≡ r
+          → ((w′ : Walk) → step Y G w e ≡ On w′ → Walks (walkFrom Y G page n (put Y words (w .frame .0) i (markA e)) (w .frame) w′))
+          → Walks (byStep words last w (λ w′. walkFrom Y G page n (put Y words (w .frame .0) i (markA e)) (w .frame) w′) r)
       by (On w′) q ih = ih w′ q
       by Absent q ih = record { words = s; ended = absent refl h (same q) }
       by Beyond q ih = record { words = s; ended = beyond refl h (same q) }

@@ -8,31 +8,27 @@ use lib.ListN.{length, getD, set}
 use borrow.Author.Tests.{eq-eqb, ne-eqb}
 use Rattle.paging.specs.declared.Guest.{Guest}
 use Rattle.paging.specs.Frame.{guest}
-use Rattle.paging.specs.Layout.{tables64, frameWords, pageOf, frameOf, rightsOf, isPresent}
+use Rattle.paging.specs.Layout.{frameWords, pageOf, frameOf, rightsOf, isPresent}
 use Rattle.paging.specs.Walk.{meet}
 use Rattle.paging.proofs.Tests.{false-T}
 use Rattle.rules.specs.declared.Event.{Event}
 use Rattle.rules.specs.History.{Setup, isInvlpg, isCr3Write, isBy, eventAt, wordsAt, cr3At}
 use Rattle.rules.specs.View.{View, viewOf, endsCompleteOf}
 use Rattle.rules.proofs.Steps.{stay}
-use Rattle.tables.specs.declared.Sizes.{Sizes}
 use Rattle.tables.specs.declared.Path.{Path}
 use Rattle.tables.specs.State.{Machine, State, slotCount, markOf, pageIn, placeIn, rightsIn, rootOf, nextEntry, pathTo}
-use Rattle.trees.proofs.Trees.{shd}
+use Rattle.trees.proofs.Trees.{Laid, shd}
 use Rattle.trees.proofs.Paths.{FullSame}
 use Rattle.trees.proofs.Slots.{SameSlot}
 use Rattle.trees.proofs.SlotRules.{same-place, same-rights}
 use Rattle.keeps.proofs.Alikes.{Same}
 use Rattle.keeps.proofs.Right.{Right}
-use Rattle.promise.specs.Demand.{Fresh, machineOf, guestOf}
+use Rattle.promise.specs.Demand.{Fresh, guestOf}
 use Rattle.promise.proofs.Settles.{Backed}
 
 module _ (F : Fresh) (es : List Event) where
-  abbrev z : Sizes
-  z = F .sizes
-
   abbrev M : Machine
-  M = machineOf F
+  M = F .machine
 
   abbrev pub U : Setup
   U = guestOf F
@@ -43,7 +39,7 @@ module _ (F : Fresh) (es : List Event) where
   -- behind a host frame stands the guest frame of a held completed walk
   pub record Behind (p v k host rights : ℕ) : Type 0 where
     pub frame : Guest
-    pub inside : frame .0 < z .frames
+    pub inside : frame .0 < M .frames
     pub mapped : host ≡ getD (F .map) (frame .0) 0
     pub backed : Backed (seen p v) k frame rights
 
@@ -55,24 +51,25 @@ module _ (F : Fresh) (es : List Event) where
 
   -- "each full shadow path … is a held completed walk up to rights, through the map"
   pub record Pathed (k : ℕ) (s : State) (p v : ℕ) : Type 0 where
-    pub full : isPresent (endOf s p v) ≡ true → Behind p v k (frameOf tables64 (endOf s p v)) (meet (pathOf s p v .rights) (rightsOf tables64 (endOf s p v)))
+    pub full : isPresent (endOf s p v) ≡ true → Behind p v k (frameOf (M .tables) (endOf s p v)) (meet (pathOf s p v .rights) (rightsOf (M .tables) (endOf s p v)))
 
   -- "… and each complete slot"
   pub record Slotted (k : ℕ) (s : State) (p j : ℕ) : Type 0 where
     pub complete : markOf (s .slots) p j ≡ 1 → Backed (seen p (pageIn (s .slots) p j)) k (guest (placeIn (s .slots) p j)) (rightsIn (s .slots) p j)
 
   pub record Holds (k : ℕ) (s : State) : Type 0 where
-    pub right : Right z (F .map) s
-    pub size : length (s .words) ≡ frameWords * z .frames
-    pub words : Same (s .words) (wordsAt U es k)
-    pub roots : (p : ℕ) → p < z .processors → shd M (s .shadow) (rootOf M p) ≡ cr3At U es p k .0
-    pub paths : (p : ℕ) → p < z .processors → (v : ℕ) → v < 2 ^ 36 → Pathed k s p v
-    pub slots : (p : ℕ) → p < z .processors → (j : ℕ) → j < slotCount → Slotted k s p j
+    pub laid : Laid (M .tables)
+    pub right : Right M (F .map) s
+    pub size : length (s .words) ≡ frameWords * M .frames
+    pub words : Same (M .tables) (s .words) (wordsAt U es k)
+    pub roots : (p : ℕ) → p < M .processors → shd M (s .shadow) (rootOf M p) ≡ cr3At U es p k .0
+    pub paths : (p : ℕ) → p < M .processors → (v : ℕ) → v < 2 ^ (M .tables .indexBits * M .tables .levels) → Pathed k s p v
+    pub slots : (p : ℕ) → p < M .processors → (j : ℕ) → j < slotCount → Slotted k s p j
 
   -- ---- a walk that event k + 1 does not end is held after it
 
   abbrev pub ends : ℕ → ℕ → ℕ → Bool
-  ends p v k = endsCompleteOf tables64 p v (eventAt es k)
+  ends p v k = endsCompleteOf (M .tables) p v (eventAt es k)
 
   pub stay-backed : (p v k : ℕ) {rights : ℕ} {g : Guest} → ends p v k ≡ false → Backed (seen p v) k g rights → Backed (seen p v) (suc k) g rights
   unfolding viewOf
@@ -101,8 +98,8 @@ module _ (F : Fresh) (es : List Event) where
         record {
           frame = b .frame;
           inside = b .inside;
-          mapped = ap (frameOf tables64) (same .1) ∙ b .mapped;
-          backed = subst (Backed (seen p v) k (b .frame)) (sym (λ i. meet (same .0 i .rights) (rightsOf tables64 (same .1 i)))) (b .backed);
+          mapped = ap (frameOf (M .tables)) (same .1) ∙ b .mapped;
+          backed = subst (Backed (seen p v) k (b .frame)) (sym (λ i. meet (same .0 i .rights) (rightsOf (M .tables) (same .1 i)))) (b .backed);
         };
   }
 
@@ -131,17 +128,17 @@ module _ (F : Fresh) (es : List Event) where
     pub other-unended : (p ≡ e .proc → ⊥) → ends p v k ≡ false
     other-unended ne = simp (ne-eqb (e .proc) p (λ q. ne (sym q)))
 
-    pub page-unended : e .kind ≡ 2 → (v ≡ pageOf tables64 (e .a) → ⊥) → ends p v k ≡ false
+    pub page-unended : e .kind ≡ 2 → (v ≡ pageOf (M .tables) (e .a) → ⊥) → ends p v k ≡ false
     page-unended two ne = go (isBy p e)
       where
-        go : (b : Bool) → (b && (isCr3Write e || isInvlpg e && eqb (pageOf tables64 (e .a)) v)) ≡ false
-        go true = simp (two, ne-eqb (pageOf tables64 (e .a)) v (λ q. ne (sym q)))
+        go : (b : Bool) → (b && (isCr3Write e || isInvlpg e && eqb (pageOf (M .tables) (e .a)) v)) ≡ false
+        go true = simp (two, ne-eqb (pageOf (M .tables) (e .a)) v (λ q. ne (sym q)))
         go false = refl
 
     pub quiet-unended : (e .kind ≡ 2 → ⊥) → (e .kind ≡ 3 → ⊥) → ends p v k ≡ false
     quiet-unended two three = go (isBy p e)
       where
-        go : (b : Bool) → (b && (isCr3Write e || isInvlpg e && eqb (pageOf tables64 (e .a)) v)) ≡ false
+        go : (b : Bool) → (b && (isCr3Write e || isInvlpg e && eqb (pageOf (M .tables) (e .a)) v)) ≡ false
         go true = simp (ne-eqb (e .kind) 3 three, ne-eqb (e .kind) 2 two)
         go false = refl
 

@@ -13,7 +13,7 @@ use Rattle.tables.specs.State.{State, slotCount, emptied}
 use Rattle.tables.proofs.Counts.{by-cases}
 use Rattle.trees.proofs.Slots.{SameSlot, Empty, Room, same-self, same-on, same-empty, with-length, with-other, emptied-here, Local, each-length, each-other, each-here}
 use Rattle.trees.proofs.SlotRules.{empty-right, same-right}
-use Rattle.promise.specs.Demand.{Fresh, machineOf, Losses, losing}
+use Rattle.promise.specs.Demand.{Fresh, Losses, losing}
 use Rattle.promise.proofs.Holds.{Holds, same-path, same-slot, no-slot}
 
 -- slot j of q is empty, or as it was
@@ -73,18 +73,19 @@ module _ (lost : Losses) (slots : List ℕ) where
       left-on (upto-left P n e (omega arith) q j hj) (after-left lost n (upto n) (omega (arith, upto-length n)) q j hj)
 
 -- THE INVARIANT STAYS
-pub losing-holds : (F : Fresh) (es : List Event) (k : ℕ) (lost : Losses) (s : State) → Holds F es k s → Holds F es k (losing (machineOf F) lost s)
+pub losing-holds : (F : Fresh) (es : List Event) (k : ℕ) (lost : Losses) (s : State) → Holds F es k s → Holds F es k (losing (F .machine) lost s)
 unfolding losing
 losing-holds F es k lost s h = record {
+  laid = h .laid;
   right = record {
     law = record {
       trees = h .right .law .trees;
       slots = λ q hq j hj.
           by-cases (left q j hj)
-          (λ x. empty-right (machineOf F) (s .shadow .pool) (s′ .slots) q j x)
-          (λ x. same-right x (machineOf F) (s .shadow .pool) ∙ h .right .law .slots q hq j hj);
+          (λ x. empty-right (F .machine) (s .shadow .pool) (s′ .slots) q j x)
+          (λ x. same-right x (F .machine) (s .shadow .pool) ∙ h .right .law .slots q hq j hj);
     };
-    triples = upto-length lost (s .slots) (F .sizes .processors) ∙ h .right .triples;
+    triples = upto-length lost (s .slots) (F .machine .processors) ∙ h .right .triples;
   };
   size = h .size;
   words = h .words;
@@ -97,7 +98,7 @@ losing-holds F es k lost s h = record {
 }
   where
     s′ : State
-    s′ = losing (machineOf F) lost s
+    s′ = losing (F .machine) lost s
 
     left : (q j : ℕ) → j < slotCount → Left (s .slots) (s′ .slots) q j
-    left q j hj = upto-left lost (s .slots) (F .sizes .processors) (F .sizes .processors) (h .right .triples) (omega arith) q j hj
+    left q j hj = upto-left lost (s .slots) (F .machine .processors) (F .machine .processors) (h .right .triples) (omega arith) q j hj

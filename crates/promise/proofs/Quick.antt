@@ -13,7 +13,7 @@ use Rattle.tables.specs.Steps.{servingSlot, flush, flushed, walkFrom, leafOf, f
 use Rattle.shadow.specs.declared.Answer.{Answer}
 use Rattle.shadow.specs.After.{Result, decode, moved, dirtied, leafCleared, afterInvlpg, fill, afterMiss, afterAccess, rooted}
 use Rattle.promise.specs.Demand as D
-use Rattle.promise.specs.Demand.{Fresh, machineOf, losing}
+use Rattle.promise.specs.Demand.{Fresh, losing}
 use Rattle.promise.specs.Known.{KnownRun, stored, narrowed}
 
 module _ (n : KnownRun) where
@@ -22,14 +22,14 @@ module _ (n : KnownRun) where
 
   -- what an accepted event does
   abbrev pub quickly : ℕ → State → Result
-  quickly k s = moved (machineOf F) (F .map) (eventAt (n .events) k .proc) (decode (eventAt (n .events) k)) s
+  quickly k s = moved (F .machine) (F .map) (eventAt (n .events) k .proc) (decode (eventAt (n .events) k)) s
 
   unfoldable pub quickAt : ℕ → State
   quickAt zero = D.begun F
-  quickAt (suc k) = quickly k (losing (machineOf F) (λ p j. false) (quickAt k)) .state
+  quickAt (suc k) = quickly k (losing (F .machine) (λ p j. false) (quickAt k)) .state
 
   abbrev pub quickAnswer : ℕ → Answer
-  quickAnswer k = quickly k (losing (machineOf F) (λ p j. false) (quickAt k)) .answer
+  quickAnswer k = quickly k (losing (F .machine) (λ p j. false) (quickAt k)) .answer
 
 pub stored-quick : tab (length (stored .events)) (quickAnswer stored) ≡ stored .answers
 unfolding tab stored quickAt moved losing each afterAccess afterMiss afterInvlpg fill settle build named get put index pageOf frameOf rightsOf compose isPresent meet descend servingSlot firstFrom flush flushed walkFrom step requestOf enough dirtied leafOf leafCleared freeCount taken sum mark rooted

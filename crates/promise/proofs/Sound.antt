@@ -10,10 +10,9 @@ use borrow.Author.Tests.{eqb-true}
 use Rattle.paging.specs.declared.Guest.{Guest}
 use Rattle.paging.specs.declared.Request.{Request}
 use Rattle.paging.specs.Frame.{guest, host, hostOf}
-use Rattle.paging.specs.Layout.{tables64, pageOf}
+use Rattle.paging.specs.Layout.{pageOf}
 use Rattle.paging.specs.Request.{requestOf, enough}
-use Rattle.paging.proofs.Layouts.{tables64-sound}
-use Rattle.paging.proofs.Rights.{request-small}
+use Rattle.paging.proofs.Rights.{needs-small}
 use Rattle.rules.specs.declared.Event.{Event}
 use Rattle.rules.specs.declared.Outcome.{Outcome}
 use Rattle.rules.specs.History.{Fit, eventAt}
@@ -21,15 +20,15 @@ use Rattle.rules.specs.View.{View}
 use Rattle.rules.specs.Outcome.{Permitted}
 use Rattle.rules.proofs.Lawful.{Lawful}
 use Rattle.rules.proofs.Theorems.{a-list}
-use Rattle.tables.specs.declared.Sizes.{Sizes}
 use Rattle.tables.specs.declared.Walked.{Walked}
 use Rattle.tables.specs.declared.Walked.the-variants.{Fault}
-use Rattle.tables.specs.State.{State, machine64, slotCount, markOf, pageIn, placeIn, rightsIn}
+use Rattle.tables.specs.State.{Machine, State, slotCount, markOf, pageIn, placeIn, rightsIn}
 use Rattle.tables.specs.Steps.{slotServes}
 use Rattle.shadow.specs.declared.Answer.the-variants.{Again, Address, Fault as Faulted}
 use Rattle.shadow.specs.After.{Result, valueAt, after}
 use Rattle.paging.proofs.Tests.{both}
 use Rattle.shadow.proofs.Accepted.{accepted-own}
+use Rattle.trees.proofs.Trees.{Laid}
 use Rattle.trees.proofs.SlotRules.{right-complete}
 use Rattle.keeps.proofs.Moves.{page-small}
 use Rattle.keeps.proofs.Accesses.{Way, slot, shadow, fault as faulted, lacks, again, ways}
@@ -42,9 +41,9 @@ use Rattle.promise.proofs.Holds.{seen, Holds}
 use Rattle.promise.proofs.Accessed.{law, reads, rules, walk-ends, walk-held}
 use Rattle.promise.proofs.Runs.{holds-before, accepted}
 
-module _ (F : Fresh) (fresh : D.Sized F) (r : Run) (fit : Fit (guestOf F) (r .events)) (k : ℕ) (hk : k < length (r .events)) where
-  abbrev z : Sizes
-  z = F .sizes
+module _ (F : Fresh) (laid : Laid (F .machine .tables)) (fresh : D.Sized F) (r : Run) (fit : Fit (guestOf F) (r .events)) (k : ℕ) (hk : k < length (r .events)) where
+  abbrev M : Machine
+  M = F .machine
 
   abbrev e : Event
   e = eventAt (r .events) k
@@ -53,25 +52,25 @@ module _ (F : Fresh) (fresh : D.Sized F) (r : Run) (fit : Fit (guestOf F) (r .ev
   p = e .proc
 
   abbrev q : Request
-  q = requestOf tables64 (e .b)
+  q = requestOf (M .tables) (e .b)
 
   abbrev v : ℕ
-  v = pageOf tables64 (e .a)
+  v = pageOf (M .tables) (e .a)
 
   abbrev s : State
   s = before F r k
 
   h : Holds F (r .events) k s
-  h = holds-before F fresh r fit k (omega arith)
+  h = holds-before F laid fresh r fit k (omega arith)
 
-  hp : p < z .processors
-  hp = accepted-own (machine64 z) (F .map) s e (accepted F fresh r fit k hk)
+  hp : p < M .processors
+  hp = accepted-own M (F .map) s e (accepted F laid fresh r fit k hk)
 
   -- what p sees of this page
   abbrev view : View
   view = seen F (r .events) p v
 
-  abbrev lawful : Lawful view 4 (z .frames)
+  abbrev lawful : Lawful view (M .tables .levels) (M .frames)
   lawful = law F (r .events) k s h p hp (e .a) (e .b)
 
   answer-of : {out : Result} → does F r k s ≡ out → answerAt F r k ≡ out .answer
@@ -80,11 +79,11 @@ module _ (F : Fresh) (fresh : D.Sized F) (r : Run) (fit : Fit (guestOf F) (r .ev
   -- what is permitted stands in the list
   stands : {o : Outcome} → Says F r (e .a) (answerAt F r k) o → Permitted view q k o → Settles F r k
   stands {o} says permitted =
-      let l = a-list (guestOf F) (r .events) (questionAt F r k) tables64-sound k in
+      let l = a-list (guestOf F) (r .events) (questionAt F r k) (laid .sound) k in
       record { outcome = o; says = says; list = l .0; right = l .1; stands = l .1 .exact o .1 permitted }
 
   -- an address, from a held walk behind it
-  answered : (g : Guest) (rights : ℕ) → g .0 < z .frames → Backed view k g rights → q .needs < 8 → enough q rights ≡ true
+  answered : (g : Guest) (rights : ℕ) → g .0 < M .frames → Backed view k g rights → q .needs < 8 → enough q rights ≡ true
       → answerAt F r k ≡ Address (valueAt (hostOf (F .map) g) (e .a)) → Settles F r k
   answered g rights inside b small good o =
       stands (rw o (place inside))
@@ -102,12 +101,12 @@ module _ (F : Fresh) (fresh : D.Sized F) (r : Run) (fit : Fit (guestOf F) (r .ev
   by-slot small j hj t o =
       let (mark, page, good) = slot-tests j t in
       answered (guest (placeIn (s .slots) p j)) (rightsIn (s .slots) p j)
-      (right-complete (machine64 z) (s .shadow .pool) (s .slots) p j (h .right .law .slots p hp j hj) mark)
+      (right-complete M (s .shadow .pool) (s .slots) p j (h .right .law .slots p hp j hj) mark)
       (subst (λ (u : ℕ). Backed (seen F (r .events) p u) k (guest (placeIn (s .slots) p j)) (rightsIn (s .slots) p j)) page (h .slots p hp j hj .complete mark))
       small good o
 
   -- a fault of the guest's walk
-  by-fault : {x : Walked} → Ends view (z .frames) v k (rules F (r .events) k s h p hp (e .a) (e .b)) lawful (reads F (r .events) k s h p hp (e .a) (e .b)) x
+  by-fault : {x : Walked} → Ends (M .tables) (h .laid .sound) view (M .frames) v k (rules F (r .events) k s h p hp (e .a) (e .b)) lawful (reads F (r .events) k s h p hp (e .a) (e .b)) x
       → (base : ℕ) → x ≡ Fault base → answerAt F r k ≡ Faulted (base + q .adds) → Settles F r k
   by-fault (whole held done) base x o = let n : _≡_ {A = ℕ} 0 1 = cc in absurd (omega arith)
   by-fault (absent {w = w} {c = c} none held gone) base x o =
@@ -117,11 +116,11 @@ module _ (F : Fresh) (fresh : D.Sized F) (r : Run) (fit : Fit (guestOf F) (r .ev
       let y : base ≡ 9 = (let d : base ≡ c = cc in d ∙ nine) in
       stands (rw o (rw y code)) (beyond-permitted view lawful q k w held gone)
 
-  way : q .needs < 8 → Way z (F .map) p (e .a) (e .b) s (after (machine64 z) (F .map) s e) → (answerAt F r k ≡ Again) ⊎ Settles F r k
+  way : q .needs < 8 → Way M (F .map) p (e .a) (e .b) s (after M (F .map) s e) → (answerAt F r k ≡ Again) ⊎ Settles F r k
   way small (again last w x good o) = inl (answer-of o)
   way small (slot j hj t o) = inr (by-slot small j hj t (answer-of o))
   way small (shadow here good o) =
-      let b = h .paths p hp v (page-small (e .a)) .full here in
+      let b = h .paths p hp v (page-small (M .tables) (e .a)) .full here in
       inr (answered (b .frame) _ (b .inside) (b .backed) small good (answer-of o ∙ ap (λ (f : ℕ). Address (valueAt (host f) (e .a))) (b .mapped)))
   way small (faulted base x o) = inr (by-fault (walk-ends F (r .events) k s h p hp (e .a) (e .b)) base x (answer-of o))
   way small (lacks last w x bad o) =
@@ -131,10 +130,10 @@ module _ (F : Fresh) (fresh : D.Sized F) (r : Run) (fit : Fit (guestOf F) (r .ev
 
   -- SOUND
   pub sound : e .kind ≡ 4 → (answerAt F r k ≡ Again) ⊎ Settles F r k
-  sound four = go (kinds z (F .map) s e (accepted F fresh r fit k hk))
+  sound four = go (kinds M (F .map) s e (accepted F laid fresh r fit k hk))
     where
-      go : Kind z (F .map) s e (after (machine64 z) (F .map) s e) → (answerAt F r k ≡ Again) ⊎ Settles F r k
-      go (access x hb o) = way (request-small (e .b) hb .0) (subst (Way z (F .map) p (e .a) (e .b) s) (sym o) (ways z (F .map) p (e .a) (e .b) s))
+      go : Kind M (F .map) s e (after M (F .map) s e) → (answerAt F r k ≡ Again) ⊎ Settles F r k
+      go (access x hb o) = way (needs-small (M .tables) (e .b) hb) (subst (Way M (F .map) p (e .a) (e .b) s) (sym o) (ways M (F .map) p (e .a) (e .b) s))
       go (store x hb o) = absurd (omega arith)
       go (invlpg x o) = absurd (omega arith)
       go (cr3 x hb o) = absurd (omega arith)

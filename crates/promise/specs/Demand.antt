@@ -11,40 +11,42 @@ use lib.ListN.{length}
 use Rattle.paging.specs.declared.Guest.{Guest}
 use Rattle.paging.specs.Numbers.{each}
 use Rattle.paging.specs.Frame.{hostOf}
-use Rattle.paging.specs.Layout.{frameWords}
+use Rattle.paging.specs.Layout.{Layout, frameWords}
 use Rattle.rules.specs.declared.Event.{Event}
 use Rattle.rules.specs.declared.Question.{Question}
 use Rattle.rules.specs.declared.Outcome.{Outcome}
 use Rattle.rules.specs.declared.Outcome.the-variants.{Address as address, Fault as fault}
-use Rattle.rules.specs.History.{Setup, setup64, Fit, isStore, isAccess, isBegin, isExtend, isDrop, isBy, eventAt}
+use Rattle.rules.specs.History.{Setup, Fit, isStore, isAccess, isBegin, isExtend, isDrop, isBy, eventAt}
 use Rattle.rules.specs.Outcome.{RightAt}
-use Rattle.tables.specs.declared.Sizes.{Sizes}
-use Rattle.tables.specs.State.{Machine, machine64, State, stateOf, slotCount, emptied}
+use Rattle.tables.specs.State.{Machine, State, stateOf, slotCount, emptied}
 use Rattle.shadow.specs.declared.Answer.{Answer}
 use Rattle.shadow.specs.declared.Answer.the-variants.{Address, Fault, Again, Refused}
 use Rattle.shadow.specs.After.{Result, valueAt, after, started, setupRefusal}
 
 -- what a machine is set up with
 pub record Fresh : Type 0 where
-  pub sizes : Sizes
+  pub machine : Machine
   pub map : List ℕ
   pub words : List ℕ
   pub cr3s : List ℕ
 
-abbrev pub machineOf : Fresh → Machine
-machineOf F = machine64 (F .sizes)
-
 abbrev pub begun : Fresh → State
-begun F = started (machineOf F) (F .cr3s) (F .words)
+begun F = started (F .machine) (F .cr3s) (F .words)
 
 -- within the ranges of refusals 1, 2 and 7
 pub record Sized (F : Fresh) : Type 0 where
-  pub setup : setupRefusal (machineOf F) (F .map) (F .cr3s) (begun F) ≡ 0
-  pub words : length (F .words) ≡ frameWords * F .sizes .frames
+  pub setup : setupRefusal (F .machine) (F .map) (F .cr3s) (begun F) ≡ 0
+  pub words : length (F .words) ≡ frameWords * F .machine .frames
 
 -- the same guest, for the rules
 abbrev pub guestOf : Fresh → Setup
-guestOf F = setup64 (F .sizes .frames) (F .sizes .processors) (F .words) (F .cr3s)
+guestOf F = record {
+  tables = F .machine .tables;
+  frames = F .machine .frames;
+  processors = F .machine .processors;
+  words = F .words;
+  cr3s = F .cr3s;
+}
 
 -- Hardware may lose a slot at any moment (source document 001, Table I): which slots of which processor are lost
 abbrev pub Losses : Type 0
@@ -68,15 +70,15 @@ mayStandBetween p e = not (isBy p e) || (isStore e || (isBegin e || (isExtend e 
 module _ (F : Fresh) (r : Run) where
   -- what the machine does with event k + 1
   abbrev pub does : ℕ → State → Result
-  does k s = after (machineOf F) (F .map) s (eventAt (r .events) k)
+  does k s = after (F .machine) (F .map) s (eventAt (r .events) k)
 
   -- the state at moment k, and after the losses of that moment
   unfoldable pub stateAt : ℕ → State
   stateAt zero = begun F
-  stateAt (suc k) = does k (losing (machineOf F) (r .lost k) (stateAt k)) .state
+  stateAt (suc k) = does k (losing (F .machine) (r .lost k) (stateAt k)) .state
 
   abbrev pub before : ℕ → State
-  before k = losing (machineOf F) (r .lost k) (stateAt k)
+  before k = losing (F .machine) (r .lost k) (stateAt k)
 
   abbrev pub answerAt : ℕ → Answer
   answerAt k = does k (before k) .answer
@@ -87,7 +89,7 @@ module _ (F : Fresh) (r : Run) where
 
   -- an answer to an access to a says an outcome: an address in the host frame of a guest frame, or a fault's code
   pub data Says (a : ℕ) : Answer → Outcome → Type 0 where
-    place : {g : Guest} → g .0 < F .sizes .frames → Says a (Address (valueAt (hostOf (F .map) g) a)) (address g)
+    place : {g : Guest} → g .0 < F .machine .frames → Says a (Address (valueAt (hostOf (F .map) g) a)) (address g)
     code : {c : ℕ} → Says a (Fault c) (fault c)
 
   -- the put at moment k ends in an outcome that stands in the list for the events before it
@@ -106,10 +108,11 @@ module _ (F : Fresh) (r : Run) where
       × ((m : ℕ) → k < m → m < length (r .events) → eventAt (r .events) m ≡ eventAt (r .events) k
       → ((j : ℕ) → k < j → j < m → T (mayStandBetween (eventAt (r .events) k .proc) (eventAt (r .events) j))) → Settles m))
 
--- EVERY EVENT THAT FITS IS TAKEN: acceptance is about ranges, never about the machine's own answers
-abbrev pub Accepts : Type 0
-Accepts = (F : Fresh) → Sized F → (r : Run) → Fit (guestOf F) (r .events) → (k : ℕ) → k < length (r .events) → (n : ℕ) → answerAt F r k ≡ Refused n → ⊥
+-- EVERY EVENT THAT FITS IS TAKEN: acceptance is about ranges, never about the machine's own answers. Here and in demand 3
+-- for all machines with tables of one layout.
+abbrev pub Accepts : Layout → Type 0
+Accepts Y = (F : Fresh) → F .machine .tables ≡ Y → Sized F → (r : Run) → Fit (guestOf F) (r .events) → (k : ℕ) → k < length (r .events) → (n : ℕ) → answerAt F r k ≡ Refused n → ⊥
 
 -- DEMAND 3
-abbrev pub Demand : Type 0
-Demand = (F : Fresh) → Sized F → (r : Run) → Fit (guestOf F) (r .events) → (k : ℕ) → k < length (r .events) → T (isAccess (eventAt (r .events) k)) → SettlesInTwo F r k
+abbrev pub Demand : Layout → Type 0
+Demand Y = (F : Fresh) → F .machine .tables ≡ Y → Sized F → (r : Run) → Fit (guestOf F) (r .events) → (k : ℕ) → k < length (r .events) → T (isAccess (eventAt (r .events) k)) → SettlesInTwo F r k

@@ -4,6 +4,7 @@ use mathlib.Core.List.{List, [], _∷_}
 use Prim.Native.Nat.{ℕ, _^_}
 use lib.ListN.{set, replicate}
 use Rattle.rules.specs.declared.Event.{Event}
+use Rattle.tables.specs.State.{machine64}
 use Rattle.shadow.specs.declared.Answer.{Answer}
 use Rattle.shadow.specs.declared.Answer.the-variants.{Done, Address, Fault, Again}
 use Rattle.promise.specs.Demand.{Fresh, Run}
@@ -21,7 +22,7 @@ runOf n = record { events = n .events; lost = λ k p j. false }
 -- "6 100 101 102 103 104 105", "1 0", "4 0 4103 512 8199 1024 12295 1536 16391"
 abbrev pub start : Fresh
 start = record {
-  sizes = record { frames = 6; processors = 1; share = 4; base = 2 ^ 20 };
+  machine = machine64 (record { frames = 6; processors = 1; share = 4; base = 2 ^ 20 });
   map = 100 ∷ 101 ∷ 102 ∷ 103 ∷ 104 ∷ 105 ∷ [];
   words = set (set (set (set (replicate 3072 0) 0 4103) 512 8199) 1024 12295) 1536 16391;
   cr3s = 0 ∷ [];

@@ -283,7 +283,7 @@ call-sized z map s e {w} ew none =
     sized z (ranged (machine64 z) (both (rangesFit (machine64 z)) (lengthsFit (machine64 z) map (s .shadow) (s .slots)) (h .0) .0)) (both (poolFits (machine64 z)) (mapFits (2 ^ 40) map) (g .0) .0)
 
 module _ (z : Sizes) (map : List ℕ) (s : State) (e : Event) (ok : callRefusal (machine64 z) map s e ≡ 0) where
-  pub accepted-sized : Sized z
+  accepted-sized : Sized z
   accepted-sized =
       let r = accepted-ranged (machine64 z) map s e ok in
       record {
