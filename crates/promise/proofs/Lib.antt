@@ -13,3 +13,4 @@ pub mod Sound
 pub mod Between
 pub mod Theorems
 pub mod Known
+pub mod Narrow
