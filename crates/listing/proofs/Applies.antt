@@ -35,7 +35,7 @@ module _ (G page a : ℕ) where
 
 module _ (G p page : ℕ) (e : Event) (s : Replay) where
   pub applied-store : e .kind ≡ 1
-      → applied G p page e s ≡ replayOf (s .cr3) (set (s .words) (e .a) (e .b)) (rereadWord G page (set (s .words) (e .a) (e .b)) (e .a) 4 (s .work))
+      → applied G p page e s ≡ replayOf (s .cr3) (set (s .words) (e .a) (e .b)) (rereadWord tables64 G page (set (s .words) (e .a) (e .b)) (e .a) 4 (s .work))
   unfolding applied
   applied-store k = simp (eq-eqb (e .kind) 1 k)
 
@@ -46,12 +46,12 @@ module _ (G p page : ℕ) (e : Event) (s : Replay) where
 
     module _ (mine : e .proc ≡ p) where
       pub applied-invlpg : e .kind ≡ 2
-          → applied G p page e s ≡ replayOf (s .cr3) (s .words) (restarted G page (s .words) (forgets G page (e .a)) (guest (s .cr3)) (s .work))
+          → applied G p page e s ≡ replayOf (s .cr3) (s .words) (restarted tables64 G page (s .words) (forgets G page (e .a)) (guest (s .cr3)) (s .work))
       unfolding applied
       applied-invlpg k = simp (ne-eqb (e .kind) 1 no-store, eq-eqb (e .proc) p mine, eq-eqb (e .kind) 2 k)
 
       module _ (no-invlpg : e .kind ≡ 2 → ⊥) where
-        pub applied-cr3 : e .kind ≡ 3 → applied G p page e s ≡ replayOf (e .a) (s .words) (restarted G page (s .words) 0 (guest (e .a)) (s .work))
+        pub applied-cr3 : e .kind ≡ 3 → applied G p page e s ≡ replayOf (e .a) (s .words) (restarted tables64 G page (s .words) 0 (guest (e .a)) (s .work))
         unfolding applied
         applied-cr3 k = simp (ne-eqb (e .kind) 1 no-store, eq-eqb (e .proc) p mine, ne-eqb (e .kind) 2 no-invlpg, eq-eqb (e .kind) 3 k)
 
@@ -66,10 +66,10 @@ module _ (G p page : ℕ) (e : Event) (s : Replay) where
     where
       go : (store invlpg write : Bool) → (T write → e .a < G)
           → cond store
-          (replayOf (s .cr3) (set (s .words) (e .a) (e .b)) (rereadWord G page (set (s .words) (e .a) (e .b)) (e .a) 4 (s .work)))
+          (replayOf (s .cr3) (set (s .words) (e .a) (e .b)) (rereadWord tables64 G page (set (s .words) (e .a) (e .b)) (e .a) 4 (s .work)))
           (cond invlpg
-          (replayOf (s .cr3) (s .words) (restarted G page (s .words) (forgets G page (e .a)) (guest (s .cr3)) (s .work)))
-          (cond write (replayOf (e .a) (s .words) (restarted G page (s .words) 0 (guest (e .a)) (s .work))) s))
+          (replayOf (s .cr3) (s .words) (restarted tables64 G page (s .words) (forgets G page (e .a)) (guest (s .cr3)) (s .work)))
+          (cond write (replayOf (e .a) (s .words) (restarted tables64 G page (s .words) 0 (guest (e .a)) (s .work))) s))
           .cr3 < G
       go true b c w = h
       go false true c w = h

@@ -35,6 +35,7 @@ use Rattle.listing.specs.Call.{pairs}
 use Rattle.listing.specs.Collect.{Out, outOf, pushed, stopCode, walkAt, servesWith, serves, lacksAt, lacks, stopsAt, stops, addresses, collected}
 use Rattle.listing.proofs.Bytes.{byte-walk, byte-cell}
 use Rattle.listing.proofs.Pairs.{ifs, Wrote, wrote-none, wrote-push}
+use Rattle.paging.specs.Layout.{tables64}
 
 -- ---- rising lists grow at their end
 
@@ -183,8 +184,8 @@ beyond-is Absent e = absurd (omega arith)
 beyond-is Beyond e = refl
 beyond-is Complete e = absurd (omega arith)
 
-module _ (seen : View) (G page : ℕ) (words : ℕ → List ℕ) (t : Told seen G page words) (some-frame : 0 < G) (q : Request) (n : ℕ) (work : List ℕ)
-    (tracks : Tracks seen G page words n work) where
+module _ (seen : View) (G page : ℕ) (words : ℕ → List ℕ) (t : Told tables64 seen G page words) (some-frame : 0 < G) (q : Request) (n : ℕ) (work : List ℕ)
+    (tracks : Tracks tables64 seen G page words n work) where
   -- the walk of a marked byte is held
   held-at : (k : ℕ) → k < workBytes G → getD work k 0 ≡ 1 → Kept seen n (walkAt G k)
   held-at k h m = tracks .sound (walkAt G k) (byte-walk G k some-frame h) (ap (λ (j : ℕ). getD work j 0) (byte-cell G k some-frame) ∙ m)
@@ -220,14 +221,14 @@ module _ (seen : View) (G page : ℕ) (words : ℕ → List ℕ) (t : Told seen 
       let (j, hj, u) = some-e (λ j. stopsAt G page (words n) work base (8 * G + j)) (32 * G) e in
       let k = 8 * G + j in
       let m = eqb-true (getD work k 0) 1 (T-true _ (and-l (eqb (getD work k 0) 1) _ (true-T _ u))) in
-      let code = eqb-true (stopCode (stepIn G page (words n) (walkAt G k))) base (T-true _ (and-r (eqb (getD work k 0) 1) _ (true-T _ u))) in
+      let code = eqb-true (stopCode (stepIn tables64 G page (words n) (walkAt G k))) base (T-true _ (and-r (eqb (getD work k 0) 1) _ (true-T _ u))) in
       permit (walkAt G k) s o (held-at k (omega arith) m) (t .reads n (walkAt G k) ∙ is _ code) (gives (walkAt G k))
 
   -- ---- the other way
 
   module _ (w : Walk) (h : Kept seen n w) where
     byte : HasByte G w
-    byte = kept-byte seen G page words t h
+    byte = kept-byte tables64 seen G page words t h
 
     walk-back : walkAt G (cell G w) ≡ w
     walk-back =
@@ -254,11 +255,11 @@ module _ (seen : View) (G page : ℕ) (words : ℕ → List ℕ) (t : Told seen 
         let j = cell G w - 8 * G in
         let at : 8 * G + j ≡ cell G w = omega arith in
         let m : getD work (8 * G + j) 0 ≡ 1 = ap (λ (k : ℕ). getD work k 0) at ∙ tracks .full w h in
-        let c : stopCode (stepIn G page (words n) (walkAt G (8 * G + j))) ≡ base =
-        ap (λ (k : ℕ). stopCode (stepIn G page (words n) (walkAt G k))) at ∙ ap (λ (v : Walk). stopCode (stepIn G page (words n) v)) walk-back
+        let c : stopCode (stepIn tables64 G page (words n) (walkAt G (8 * G + j))) ≡ base =
+        ap (λ (k : ℕ). stopCode (stepIn tables64 G page (words n) (walkAt G k))) at ∙ ap (λ (v : Walk). stopCode (stepIn tables64 G page (words n) v)) walk-back
         ∙ ap (λ (s : Step). stopCode s) (sym (t .reads n w)) ∙ code in
         some-i (λ j. stopsAt G page (words n) work base (8 * G + j)) (32 * G) j (omega (arith, cell-below G w byte))
-        (simp (eq-eqb (getD work (8 * G + j) 0) 1 m, eq-eqb (stopCode (stepIn G page (words n) (walkAt G (8 * G + j)))) base c))
+        (simp (eq-eqb (getD work (8 * G + j) 0) 1 m, eq-eqb (stopCode (stepIn tables64 G page (words n) (walkAt G (8 * G + j)))) base c))
       where
         above : 8 * G ≤ cell G w
         above = go (decLt (cell G w) (8 * G))

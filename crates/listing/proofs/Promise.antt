@@ -37,7 +37,7 @@ use Rattle.listing.proofs.Pairs.{Wrote}
 use Rattle.listing.proofs.Bytes.{byte-walk, byte-cell}
 
 -- bytes that mark the held walks say so
-says : (seen : View) (G page : ℕ) (words : ℕ → List ℕ) (t : Told seen G page words) (n : ℕ) (before after : List ℕ) → Tracks seen G page words n after
+says : (seen : View) (G page : ℕ) (words : ℕ → List ℕ) (t : Told tables64 seen G page words) (n : ℕ) (before after : List ℕ) → Tracks tables64 seen G page words n after
     → length after ≡ length before → ((k : ℕ) → workBytes G ≤ k → getD after k 0 ≡ getD before k 0) → WorkSays G (Held seen n) before after
 says seen G page words t n before after tracks size rest = record { size = size; each = λ w h. byte w h (tracks .bits (cell G w) (cell-below G w h)); rest = rest }
   where
@@ -72,9 +72,9 @@ module _ (q : Asked) (b : Lent) (ok : Accepted q b) where
   lists count words work outcomes a =
       let seen = viewOf (setupOf q b) (eventsOf (q .events)) (q .question .proc) page in
       let at = wordsAt (setupOf q b) (eventsOf (q .events)) in
-      let t : Told seen G page at = told G (length (q .cr3s)) (b .words) (q .cr3s) (eventsOf (q .events)) (q .question .proc) page (fit q b ok) (ok .proc) in
+      let t : Told tables64 seen G page at = told G (length (q .cr3s)) (b .words) (q .cr3s) (eventsOf (q .events)) (q .question .proc) page (fit q b ok) (ok .proc) in
       let new-words : words ≡ at N = a .words-are ∙ final .words-are in
-      let tracks : Tracks seen G page at N work = subst (λ (l : List ℕ). Tracks seen G page at N l) (sym (a .work-is)) (final .tracks) in
+      let tracks : Tracks tables64 seen G page at N work = subst (λ (l : List ℕ). Tracks tables64 seen G page at N l) (sym (a .work-is)) (final .tracks) in
       let r = requestOf tables64 (q .question .request) in
       let wrote : Wrote (b .outcomes) (listed G page r (at N) work) (outOf count outcomes) =
       subst (λ (o : Out). Wrote (b .outcomes) (listed G page r (at N) work) o)

@@ -73,19 +73,19 @@ module _ (G P : ℕ) (ws cs : List ℕ) (es : List Event) (p page : ℕ) where
   abbrev seen : View
   seen = viewOf U es p page
 
-  read-is : (n : ℕ) (w : Walk) → seen .steps n w ≡ stepIn G page (wordsAt U es n) w
+  read-is : (n : ℕ) (w : Walk) → seen .steps n w ≡ stepIn tables64 G page (wordsAt U es n) w
   unfolding viewOf stepIn
   read-is n w = refl
 
-  pub told : Fit U es → p < P → Told seen G page (wordsAt U es)
-  told fit h = record { reads = read-is; law = lawful U es p page tables64-sound; root = rooted U es p page fit h }
+  pub told : Fit U es → p < P → Told tables64 seen G page (wordsAt U es)
+  told fit h = record { reads = read-is; sound = tables64-sound; few = omega arith; law = lawful U es p page tables64-sound; root = rooted U es p page fit h }
 
   -- after n events
   pub record Follows (work₀ : List ℕ) (n : ℕ) (s : Replay) : Type 0 where
     pub words-are : s .words ≡ wordsAt U es n
     pub cr3-is : guest (s .cr3) ≡ cr3At U es p n
     pub size : length (s .work) ≡ length work₀
-    pub tracks : Tracks seen G page (wordsAt U es) n (s .work)
+    pub tracks : Tracks tables64 seen G page (wordsAt U es) n (s .work)
     pub rest : (k : ℕ) → workBytes G ≤ k → getD (s .work) k 0 ≡ getD work₀ k 0
 
   module _ (fit : Fit U es) (hp : p < P) (work₀ : List ℕ) (room : workBytes G ≤ length work₀) where
@@ -102,25 +102,25 @@ module _ (G P : ℕ) (ws cs : List ℕ) (es : List Event) (p page : ℕ) where
 
     -- forgetting and beginning anew keeps the number of bytes and the later ones
     restart-size : (n from : ℕ) (g : Guest) (work : List ℕ) → from ≤ workBytes G → workBytes G ≤ length work → g .0 < G
-        → length (restarted G page (wordsAt U es n) from g work) ≡ length work
+        → length (restarted tables64 G page (wordsAt U es n) from g work) ≡ length work
     restart-size n from g work le r h =
-        restart-grows seen G page (wordsAt U es) (told fit hp) work r g n from le (root-byte g h) .size ∙ cleared-size from (workBytes G - from) work
+        restart-grows tables64 seen G page (wordsAt U es) (told fit hp) work r g n from le (root-byte g h) .size ∙ cleared-size from (workBytes G - from) work
 
     restart-rest : (n from : ℕ) (g : Guest) (work : List ℕ) → from ≤ workBytes G → workBytes G ≤ length work → g .0 < G
-        → (k : ℕ) → workBytes G ≤ k → getD (restarted G page (wordsAt U es n) from g work) k 0 ≡ getD work k 0
+        → (k : ℕ) → workBytes G ≤ k → getD (restarted tables64 G page (wordsAt U es n) from g work) k 0 ≡ getD work k 0
     restart-rest n from g work le r h k hk =
-        restart-grows seen G page (wordsAt U es) (told fit hp) work r g n from le (root-byte g h) .rest k hk
+        restart-grows tables64 seen G page (wordsAt U es) (told fit hp) work r g n from le (root-byte g h) .rest k hk
         ∙ cleared-above from (workBytes G - from) k work (omega arith)
 
-    pub started : Follows work₀ 0 (replayOf (getD cs p 0) ws (restarted G page ws 0 (guest (getD cs p 0)) work₀))
+    pub started : Follows work₀ 0 (replayOf (getD cs p 0) ws (restarted tables64 G page ws 0 (guest (getD cs p 0)) work₀))
     unfolding wordsAt cr3At
     started = record {
       words-are = words-zero;
       cr3-is = cr3-zero;
-      size = ap (λ (l : List ℕ). length (restarted G page l 0 (guest (getD cs p 0)) work₀)) words-zero ∙ restart-size 0 0 (guest (getD cs p 0)) work₀ (omega arith) room zero-in;
-      tracks = subst (λ (l : List ℕ). Tracks seen G page (wordsAt U es) 0 (restarted G page l 0 (guest (getD cs p 0)) work₀)) (sym words-zero)
-          (from-start seen G page (wordsAt U es) (told fit hp) work₀ room (guest (getD cs p 0)) (begins-is 0 (guest (getD cs p 0)) (sym cr3-zero)));
-      rest = λ k hk. ap (λ (l : List ℕ). getD (restarted G page l 0 (guest (getD cs p 0)) work₀) k 0) words-zero ∙ restart-rest 0 0 (guest (getD cs p 0)) work₀ (omega arith) room zero-in k hk;
+      size = ap (λ (l : List ℕ). length (restarted tables64 G page l 0 (guest (getD cs p 0)) work₀)) words-zero ∙ restart-size 0 0 (guest (getD cs p 0)) work₀ (omega arith) room zero-in;
+      tracks = subst (λ (l : List ℕ). Tracks tables64 seen G page (wordsAt U es) 0 (restarted tables64 G page l 0 (guest (getD cs p 0)) work₀)) (sym words-zero)
+          (from-start tables64 seen G page (wordsAt U es) (told fit hp) work₀ room (guest (getD cs p 0)) (begins-is 0 (guest (getD cs p 0)) (sym cr3-zero)));
+      rest = λ k hk. ap (λ (l : List ℕ). getD (restarted tables64 G page l 0 (guest (getD cs p 0)) work₀) k 0) words-zero ∙ restart-rest 0 0 (guest (getD cs p 0)) work₀ (omega arith) room zero-in k hk;
     }
       where
         words-zero : ws ≡ wordsAt U es 0
@@ -176,23 +176,23 @@ module _ (G P : ℕ) (ws cs : List ℕ) (es : List Event) (p page : ℕ) where
         words-are = old .words-are ∙ sym w;
         cr3-is = old .cr3-is ∙ sym c;
         size = old .size;
-        tracks = after-idle seen G page (wordsAt U es) (told fit hp) n w (same-begins c) (quiet q) (s .work) (old .tracks);
+        tracks = after-idle tables64 seen G page (wordsAt U es) (told fit hp) n w (same-begins c) (quiet q) (s .work) (old .tracks);
         rest = old .rest;
       }
 
       stored-follows : (k : e .kind ≡ 1)
-          → Follows work₀ (suc n) (replayOf (s .cr3) (set (s .words) (e .a) (e .b)) (rereadWord G page (set (s .words) (e .a) (e .b)) (e .a) 4 (s .work)))
+          → Follows work₀ (suc n) (replayOf (s .cr3) (set (s .words) (e .a) (e .b)) (rereadWord tables64 G page (set (s .words) (e .a) (e .b)) (e .a) 4 (s .work)))
       stored-follows k =
           let new : set (s .words) (e .a) (e .b) ≡ wordsAt U es (suc n) = ap (λ (l : List ℕ). set l (e .a) (e .b)) (old .words-are) ∙ sym (words-stored k) in
           let no-cr3 : e .kind ≡ 3 → ⊥ = λ z. omega arith in
-          let grown = word-grows G page (wordsAt U es (suc n)) (e .a) (ha .word k) 4 (s .work) (omega arith) room-n in
+          let grown = word-grows tables64 G page (wordsAt U es (suc n)) (e .a) (ha .word k) 4 (s .work) (omega arith) room-n in
           record {
             words-are = new;
             cr3-is = old .cr3-is ∙ sym (cr3-kept no-cr3);
-            size = ap (λ (l : List ℕ). length (rereadWord G page l (e .a) 4 (s .work))) new ∙ grown .size ∙ old .size;
-            tracks = subst (λ (l : List ℕ). Tracks seen G page (wordsAt U es) (suc n) (rereadWord G page l (e .a) 4 (s .work))) (sym new)
-                (after-store seen G page (wordsAt U es) (told fit hp) n (e .a) (e .b) (ha .word k) (words-stored k) (same-begins (cr3-kept no-cr3)) (quiet (quiet-store p page e k)) (s .work) room-n (old .tracks));
-            rest = λ j hj. ap (λ (l : List ℕ). getD (rereadWord G page l (e .a) 4 (s .work)) j 0) new ∙ grown .rest j hj ∙ old .rest j hj;
+            size = ap (λ (l : List ℕ). length (rereadWord tables64 G page l (e .a) 4 (s .work))) new ∙ grown .size ∙ old .size;
+            tracks = subst (λ (l : List ℕ). Tracks tables64 seen G page (wordsAt U es) (suc n) (rereadWord tables64 G page l (e .a) 4 (s .work))) (sym new)
+                (after-store tables64 seen G page (wordsAt U es) (told fit hp) n (e .a) (e .b) (ha .word k) (words-stored k) (same-begins (cr3-kept no-cr3)) (quiet (quiet-store p page e k)) (s .work) room-n (old .tracks));
+            rest = λ j hj. ap (λ (l : List ℕ). getD (rereadWord tables64 G page l (e .a) 4 (s .work)) j 0) new ∙ grown .rest j hj ∙ old .rest j hj;
           }
 
       -- what beginning anew follows, whatever the CR3 and the bytes forgotten
@@ -200,24 +200,24 @@ module _ (G P : ℕ) (ws cs : List ℕ) (es : List Event) (p page : ℕ) where
           → ((x : Walk) → HasByte G x → cell G x < from → T (not (ends seen x n)))
           → ((x : Walk) → HasByte G x → T (not (ends seen x n)) → cell G x < from)
           → ((x : Walk) → HasByte G x → cell G x < from → x .level ≡ 0)
-          → Follows work₀ (suc n) (replayOf c (s .words) (restarted G page (s .words) from (guest c) (s .work)))
+          → Follows work₀ (suc n) (replayOf c (s .words) (restarted tables64 G page (s .words) from (guest c) (s .work)))
       anew c from le hc w root stays leaves done =
           let new : s .words ≡ wordsAt U es (suc n) = old .words-are ∙ sym w in
           let in-work : from ≤ workBytes G = omega arith in
           record {
             words-are = new;
             cr3-is = sym root;
-            size = ap (λ (l : List ℕ). length (restarted G page l from (guest c) (s .work))) new ∙ restart-size (suc n) from (guest c) (s .work) in-work room-n hc ∙ old .size;
-            tracks = subst (λ (l : List ℕ). Tracks seen G page (wordsAt U es) (suc n) (restarted G page l from (guest c) (s .work))) (sym new)
-                (after-end seen G page (wordsAt U es) (told fit hp) (s .work) room-n (guest c) n from in-work stays leaves done (begins-is (suc n) (guest c) root) (old .tracks));
-            rest = λ j hj. ap (λ (l : List ℕ). getD (restarted G page l from (guest c) (s .work)) j 0) new
+            size = ap (λ (l : List ℕ). length (restarted tables64 G page l from (guest c) (s .work))) new ∙ restart-size (suc n) from (guest c) (s .work) in-work room-n hc ∙ old .size;
+            tracks = subst (λ (l : List ℕ). Tracks tables64 seen G page (wordsAt U es) (suc n) (restarted tables64 G page l from (guest c) (s .work))) (sym new)
+                (after-end tables64 seen G page (wordsAt U es) (told fit hp) (s .work) room-n (guest c) n from in-work stays leaves done (begins-is (suc n) (guest c) root) (old .tracks));
+            rest = λ j hj. ap (λ (l : List ℕ). getD (restarted tables64 G page l from (guest c) (s .work)) j 0) new
                 ∙ restart-rest (suc n) from (guest c) (s .work) in-work room-n hc j hj ∙ old .rest j hj;
           }
 
       -- an event that ends all walks
       anew-all : (c : ℕ) → c < G → wordsAt U es (suc n) ≡ wordsAt U es n → cr3At U es p (suc n) ≡ guest c
           → endsPartialOf p e ≡ true → endsCompleteOf tables64 p page e ≡ true
-          → Follows work₀ (suc n) (replayOf c (s .words) (restarted G page (s .words) 0 (guest c) (s .work)))
+          → Follows work₀ (suc n) (replayOf c (s .words) (restarted tables64 G page (s .words) 0 (guest c) (s .work)))
       unfolding viewOf
       anew-all c hc w root part comp =
           anew c 0 (omega arith) hc w root (λ x hx lt. absurd (omega arith)) (λ x hx t. absurd (always _ _ (x .level) part comp t)) (λ x hx lt. absurd (omega arith))
@@ -225,7 +225,7 @@ module _ (G P : ℕ) (ws cs : List ℕ) (es : List Event) (p page : ℕ) where
       -- an event that ends the partial ones
       anew-partial : (c : ℕ) → c < G → wordsAt U es (suc n) ≡ wordsAt U es n → cr3At U es p (suc n) ≡ guest c
           → endsPartialOf p e ≡ true → endsCompleteOf tables64 p page e ≡ false
-          → Follows work₀ (suc n) (replayOf c (s .words) (restarted G page (s .words) (8 * G) (guest c) (s .work)))
+          → Follows work₀ (suc n) (replayOf c (s .words) (restarted tables64 G page (s .words) (8 * G) (guest c) (s .work)))
       unfolding viewOf
       anew-partial c hc w root part comp =
           anew c (8 * G) (omega arith) hc w root
@@ -234,14 +234,14 @@ module _ (G P : ℕ) (ws cs : List ℕ) (es : List Event) (p page : ℕ) where
           (λ x hx lt. complete-first G x hx .0 lt)
 
       invlpg-follows : (e .kind ≡ 1 → ⊥) → e .proc ≡ p → e .kind ≡ 2
-          → Follows work₀ (suc n) (replayOf (s .cr3) (s .words) (restarted G page (s .words) (forgets G page (e .a)) (guest (s .cr3)) (s .work)))
+          → Follows work₀ (suc n) (replayOf (s .cr3) (s .words) (restarted tables64 G page (s .words) (forgets G page (e .a)) (guest (s .cr3)) (s .work)))
       invlpg-follows no-store mine k = go (ℕ-discrete (pageOf tables64 (e .a)) page)
         where
           root : cr3At U es p (suc n) ≡ guest (s .cr3)
           root = cr3-kept (λ z. omega arith) ∙ sym (old .cr3-is)
 
           go : Dec (pageOf tables64 (e .a) ≡ page)
-              → Follows work₀ (suc n) (replayOf (s .cr3) (s .words) (restarted G page (s .words) (forgets G page (e .a)) (guest (s .cr3)) (s .work)))
+              → Follows work₀ (suc n) (replayOf (s .cr3) (s .words) (restarted tables64 G page (s .words) (forgets G page (e .a)) (guest (s .cr3)) (s .work)))
           go (yes q) =
               rw (forgets-all G page (e .a) q)
               (anew-all (s .cr3) cr3-s (words-kept no-store) root (invlpg-ends p page e mine k .0) (invlpg-ends p page e mine k .1 ∙ eq-eqb _ _ q))

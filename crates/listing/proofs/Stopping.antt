@@ -12,6 +12,7 @@ use Rattle.paging.specs.Numbers.{some}
 use Rattle.marks.specs.Follow.{stepIn}
 use Rattle.listing.specs.declared.Faults.{Faults}
 use Rattle.listing.specs.Collect.{stopCode, walkAt, stopsAt, stopAt, withFault, stops}
+use Rattle.paging.specs.Layout.{tables64}
 
 or-true : (b : Bool) → (b || true) ≡ true
 or-true true = refl
@@ -44,7 +45,7 @@ module _ (G page : ℕ) (words work : List ℕ) where
   stop-is : (base k : ℕ) → eqb 1 base ≡ false → eqb (stopAt G page words work k) base ≡ stopsAt G page words work base k
   stop-is base k other = go (eqb (getD work k 0) 1)
     where
-      go : (b : Bool) → eqb (cond b (stopCode (stepIn G page words (walkAt G k))) 1) base ≡ (b && eqb (stopCode (stepIn G page words (walkAt G k))) base)
+      go : (b : Bool) → eqb (cond b (stopCode (stepIn tables64 G page words (walkAt G k))) 1) base ≡ (b && eqb (stopCode (stepIn tables64 G page words (walkAt G k))) base)
       go true = refl
       go false = other
 

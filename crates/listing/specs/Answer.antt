@@ -25,7 +25,7 @@ pub record Ready (G : ℕ) (words work outcomes events : List ℕ) (q : Question
 unfoldable pub stateAt : ℕ → List ℕ → List ℕ → List ℕ → Question → ℕ → ℕ → Replay
 stateAt G words work events q start n =
     let page = pageOf tables64 (q .addr) in
-    replayed G (q .proc) page events n (replayOf start words (restarted G page words 0 (guest start) work))
+    replayed G (q .proc) page events n (replayOf start words (restarted tables64 G page words 0 (guest start) work))
 
 pub record Answers (G : ℕ) (words work outcomes events : List ℕ) (q : Question) (start count : ℕ) (words′ work′ outcomes′ : List ℕ) : Type 0 where
   pub words-are : words′ ≡ stateAt G words work events q start (length events / 4) .words

@@ -13,6 +13,7 @@ use Rattle.paging.specs.Request.{enough}
 use Rattle.listing.specs.declared.Faults.{Faults}
 use Rattle.marks.specs.Work.{cell}
 use Rattle.marks.specs.Follow.{isMarked, walkOf, stepIn}
+use Rattle.paging.specs.Layout.{tables64}
 
 -- the outcomes written so far, and the buffer
 pub record Out : Type 0 where
@@ -54,11 +55,11 @@ lacks G q work = some (8 * G) (lacksAt q work)
 
 -- a held partial walk stops with this base code
 abbrev pub stopsAt : ℕ → ℕ → List ℕ → List ℕ → ℕ → ℕ → Bool
-stopsAt G page words work base k = eqb (getD work k 0) 1 && eqb (stopCode (stepIn G page words (walkAt G k))) base
+stopsAt G page words work base k = eqb (getD work k 0) 1 && eqb (stopCode (stepIn tables64 G page words (walkAt G k))) base
 
 -- the base code with which the walk of byte k stops; 1 if it is not held, or does not stop
 abbrev pub stopAt : ℕ → ℕ → List ℕ → List ℕ → ℕ → ℕ
-stopAt G page words work k = cond (eqb (getD work k 0) 1) (stopCode (stepIn G page words (walkAt G k))) 1
+stopAt G page words work k = cond (eqb (getD work k 0) 1) (stopCode (stepIn tables64 G page words (walkAt G k))) 1
 
 -- one walk more
 abbrev pub withFault : Faults → ℕ → Faults

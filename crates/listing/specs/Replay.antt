@@ -35,10 +35,10 @@ module _ (G p page : ℕ) where
   unfoldable pub applied : Event → Replay → Replay
   applied e s =
       cond (isStore e)
-      (replayOf (s .cr3) (set (s .words) (e .a) (e .b)) (rereadWord G page (set (s .words) (e .a) (e .b)) (e .a) 4 (s .work)))
+      (replayOf (s .cr3) (set (s .words) (e .a) (e .b)) (rereadWord tables64 G page (set (s .words) (e .a) (e .b)) (e .a) 4 (s .work)))
       (cond (isBy p e && isInvlpg e)
-      (replayOf (s .cr3) (s .words) (restarted G page (s .words) (forgets G page (e .a)) (guest (s .cr3)) (s .work)))
-      (cond (isBy p e && isCr3Write e) (replayOf (e .a) (s .words) (restarted G page (s .words) 0 (guest (e .a)) (s .work))) s))
+      (replayOf (s .cr3) (s .words) (restarted tables64 G page (s .words) (forgets G page (e .a)) (guest (s .cr3)) (s .work)))
+      (cond (isBy p e && isCr3Write e) (replayOf (e .a) (s .words) (restarted tables64 G page (s .words) 0 (guest (e .a)) (s .work))) s))
 
   unfoldable pub replayed : List ℕ → ℕ → Replay → Replay
   replayed ns n s = each n (λ k. applied (eventOf ns k)) s

@@ -11,7 +11,7 @@ use lib.ListN.{length, getD, set, length-set, List·getD-eq-default}
 use lib.Seq.{getD-set-same, getD-set-other}
 use Rattle.paging.specs.declared.Guest.{Guest}
 use Rattle.paging.specs.declared.Walk.{Walk}
-use Rattle.paging.specs.Layout.{tables64}
+use Rattle.paging.specs.Layout.{Layout}
 use Rattle.paging.specs.Walk.{start}
 use Rattle.paging.proofs.Numbers.{set-zero}
 use Rattle.rules.specs.View.{View}
@@ -74,38 +74,38 @@ module _ (G from : ℕ) (work : List ℕ) (le : from ≤ workBytes G) (room : wo
   below-kept : (w : Walk) → cell G w < from → Marked G work w → Marked G kept w
   below-kept w lt m = cleared-below from (workBytes G - from) (cell G w) work lt ∙ m
 
-module _ (seen : View) (G page : ℕ) (words : ℕ → List ℕ) (t : Told seen G page words) (work : List ℕ) (room : workBytes G ≤ length work) (cr3 : Guest) where
+module _ (Y : Layout) (seen : View) (G page : ℕ) (words : ℕ → List ℕ) (t : Told Y seen G page words) (work : List ℕ) (room : workBytes G ≤ length work) (cr3 : Guest) where
   -- AT THE START all bytes are forgotten
-  pub from-start : seen .begins 0 ≡ start tables64 cr3 → Tracks seen G page words 0 (restarted G page (words 0) 0 cr3 work)
+  pub from-start : seen .begins 0 ≡ start Y cr3 → Tracks Y seen G page words 0 (restarted Y G page (words 0) 0 cr3 work)
   unfolding restarted
   from-start root =
-      begun seen G page words t 0 (kept G 0 work (omega arith) room) (kept-room G 0 work (omega arith) room)
+      begun Y seen G page words t 0 (kept G 0 work (omega arith) room) (kept-room G 0 work (omega arith) room)
       (λ k lt. inl (cleared-in 0 (workBytes G - 0) k work (omega arith) (omega arith)))
       (λ x hx m. absurd (omega (arith, still G 0 work (omega arith) room x hx m .0)))
       (λ x hx m. absurd (omega (arith, still G 0 work (omega arith) room x hx m .0)))
       (λ k w e. absurd (omega arith))
-      (start tables64 cr3) root
+      (start Y cr3) root
 
   -- AFTER AN EVENT THAT ENDS WALKS the bytes of those that it ends are forgotten; what stays is complete
   pub after-end : (n from : ℕ) → from ≤ workBytes G
       → ((x : Walk) → HasByte G x → cell G x < from → T (not (ends seen x n)))
       → ((x : Walk) → HasByte G x → T (not (ends seen x n)) → cell G x < from)
       → ((x : Walk) → HasByte G x → cell G x < from → x .level ≡ 0)
-      → seen .begins (suc n) ≡ start tables64 cr3 → Tracks seen G page words n work
-      → Tracks seen G page words (suc n) (restarted G page (words (suc n)) from cr3 work)
+      → seen .begins (suc n) ≡ start Y cr3 → Tracks Y seen G page words n work
+      → Tracks Y seen G page words (suc n) (restarted Y G page (words (suc n)) from cr3 work)
   unfolding restarted
   after-end n from le stays leaves done root old =
-      begun seen G page words t (suc n) (kept G from work le room) (kept-room G from work le room) (kept-bits G from work le room (old .bits))
+      begun Y seen G page words t (suc n) (kept G from work le room) (kept-room G from work le room) (kept-bits G from work le room (old .bits))
       (λ x hx m. let (lt, was) = still G from work le room x hx m in stay (old .sound x hx was) (stays x hx lt))
       (λ x hx m. done x hx (still G from work le room x hx m .0))
       (λ k w e h u. let q : k ≡ n = omega arith in left w (rw q at h) (rw q at u))
-      (start tables64 cr3) root
+      (start Y cr3) root
     where
       left : (w : Walk) → Kept seen n w → T (not (ends seen w n)) → Marked G (kept G from work le room) w
-      left w h u = below-kept G from work le room w (leaves w (kept-byte seen G page words t h) u) (old .full w h)
+      left w h u = below-kept G from work le room w (leaves w (kept-byte Y seen G page words t h) u) (old .full w h)
 
   -- and later bytes stay
-  pub restart-grows : (n from : ℕ) → from ≤ workBytes G → HasByte G (start tables64 cr3)
-      → Grows G (cleared from (workBytes G - from) work) (restarted G page (words n) from cr3 work)
+  pub restart-grows : (n from : ℕ) → from ≤ workBytes G → HasByte G (start Y cr3)
+      → Grows G (cleared from (workBytes G - from) work) (restarted Y G page (words n) from cr3 work)
   unfolding restarted
-  restart-grows n from le has = follow-grows G page (words n) 5 (start tables64 cr3) (kept G from work le room) (kept-room G from work le room) has
+  restart-grows n from le has = follow-grows Y G page (words n) (suc (Y .levels)) (start Y cr3) (kept G from work le room) (kept-room G from work le room) has

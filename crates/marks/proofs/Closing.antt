@@ -15,7 +15,7 @@ use Rattle.paging.specs.declared.Walk.{Walk}
 use Rattle.paging.specs.declared.Step.{Step}
 use Rattle.paging.specs.declared.Step.the-variants.{On, Absent, Beyond, Complete}
 use Rattle.paging.specs.Numbers.{each}
-use Rattle.paging.specs.Layout.{tables64, frameWords, index}
+use Rattle.paging.specs.Layout.{Layout, frameWords, index}
 use Rattle.marks.specs.Work.{cell, workBytes, HasByte}
 use Rattle.marks.specs.Follow.{isMarked, walkOf, onward, stepIn, follow, followed, reread, rereadAll, rereadAt, rereadWord}
 use Rattle.marks.proofs.Cells.{cell-below, cell-own}
@@ -93,35 +93,35 @@ module _ {G : ℕ} where
         go (inl (_, e)) = inl (cell-own G x w hx h e)
         go (inr e) = inr (sym e ∙ m)
 
-module _ (G page : ℕ) (words : List ℕ) where
+module _ (Y : Layout) (G page : ℕ) (words : List ℕ) where
   -- every marked walk that goes on, goes on to a marked one, or it passes Pend
   abbrev pub Closed : (Walk → Walk → Type 0) → List ℕ → Type 0
-  Closed Pend work = (x y : Walk) → HasByte G x → Marked G work x → stepIn G page words x ≡ On y → Marked G work y ⊎ Pend x y
+  Closed Pend work = (x y : Walk) → HasByte G x → Marked G work x → stepIn Y G page words x ≡ On y → Marked G work y ⊎ Pend x y
 
   -- all marked walks are of Q, which is closed under steps
   abbrev pub Within : (Walk → Type 0) → List ℕ → Type 0
   Within Q work = (x : Walk) → HasByte G x → Marked G work x → Q x
 
   abbrev pub Onto : (Walk → Type 0) → Type 0
-  Onto Q = (x y : Walk) → Q x → stepIn G page words x ≡ On y → Q y
+  Onto Q = (x y : Walk) → Q x → stepIn Y G page words x ≡ On y → Q y
 
   -- ---- following
 
   -- one turn: the walk was marked; or it is marked and goes no further; or it is marked and what it goes on to is followed
   data Turn (n : ℕ) (w : Walk) (work : List ℕ) : List ℕ → Type 0 where
     was : {r : List ℕ} → Marked G work w → r ≡ work → Turn n w work r
-    ends : {r : List ℕ} → ((y : Walk) → stepIn G page words w ≡ On y → ⊥) → r ≡ set work (cell G w) 1 → Turn n w work r
-    goes : {r : List ℕ} {w′ : Walk} → stepIn G page words w ≡ On w′ → r ≡ follow G page words n w′ (set work (cell G w) 1) → Turn n w work r
+    ends : {r : List ℕ} → ((y : Walk) → stepIn Y G page words w ≡ On y → ⊥) → r ≡ set work (cell G w) 1 → Turn n w work r
+    goes : {r : List ℕ} {w′ : Walk} → stepIn Y G page words w ≡ On w′ → r ≡ follow Y G page words n w′ (set work (cell G w) 1) → Turn n w work r
 
-  turn : (n : ℕ) (w : Walk) (work : List ℕ) → Turn n w work (follow G page words (suc n) w work)
+  turn : (n : ℕ) (w : Walk) (work : List ℕ) → Turn n w work (follow Y G page words (suc n) w work)
   unfolding follow
-  turn n w work = go (isMarked G work w) refl (stepIn G page words w) refl
+  turn n w work = go (isMarked G work w) refl (stepIn Y G page words w) refl
     where
-      never : (s : Step) → stepIn G page words w ≡ s → ((y : Walk) → s ≡ On y → ⊥) → (y : Walk) → stepIn G page words w ≡ On y → ⊥
+      never : (s : Step) → stepIn Y G page words w ≡ s → ((y : Walk) → s ≡ On y → ⊥) → (y : Walk) → stepIn Y G page words w ≡ On y → ⊥
       never s e n y q = n y (sym e ∙ q)
 
-      go : (b : Bool) → isMarked G work w ≡ b → (s : Step) → stepIn G page words w ≡ s
-          → Turn n w work (cond b work (onward (follow G page words n) s (set work (cell G w) 1)))
+      go : (b : Bool) → isMarked G work w ≡ b → (s : Step) → stepIn Y G page words w ≡ s
+          → Turn n w work (cond b work (onward (follow Y G page words n) s (set work (cell G w) 1)))
       go true m s e = was (eqb-true _ 1 m) refl
       go false m (On w′) e = goes e refl
       go false m Absent e = ends (never Absent e (λ y q. let z : _≡_ {A = ℕ} 0 1 = cc in omega arith)) refl
@@ -131,32 +131,32 @@ module _ (G page : ℕ) (words : List ℕ) where
   marked-size : (work : List ℕ) (w : Walk) → workBytes G ≤ length work → workBytes G ≤ length (set work (cell G w) 1)
   marked-size work w room = omega (arith, length-set work (cell G w) 1)
 
-  pub follow-grows : (n : ℕ) (w : Walk) (work : List ℕ) → workBytes G ≤ length work → HasByte G w → Grows G work (follow G page words n w work)
+  pub follow-grows : (n : ℕ) (w : Walk) (work : List ℕ) → workBytes G ≤ length work → HasByte G w → Grows G work (follow Y G page words n w work)
   unfolding follow
   follow-grows zero w work room h = grows-refl work
-  follow-grows (suc n) w work room h = by (turn n w work) (λ w′ e. follow-grows n w′ (set work (cell G w) 1) (marked-size work w room) (below G page words w w′ h e .byte))
+  follow-grows (suc n) w work room h = by (turn n w work) (λ w′ e. follow-grows n w′ (set work (cell G w) 1) (marked-size work w room) (below Y G page words w w′ h e .byte))
     where
       by : {r : List ℕ} → Turn n w work r
-          → ((w′ : Walk) → stepIn G page words w ≡ On w′ → Grows G (set work (cell G w) 1) (follow G page words n w′ (set work (cell G w) 1))) → Grows G work r
+          → ((w′ : Walk) → stepIn Y G page words w ≡ On w′ → Grows G (set work (cell G w) 1) (follow Y G page words n w′ (set work (cell G w) 1))) → Grows G work r
       by (was m e) ih = rw e (grows-refl work)
       by (ends s e) ih = rw e (mark-grows work w room h)
       by (goes {w′ = w′} s e) ih = rw e (grows-trans (mark-grows work w room h) (ih w′ s))
 
-  pub follow-has : (w : Walk) (work : List ℕ) → workBytes G ≤ length work → HasByte G w → Marked G (followed G page words w work) w
+  pub follow-has : (w : Walk) (work : List ℕ) → workBytes G ≤ length work → HasByte G w → Marked G (followed Y G page words w work) w
   follow-has w work room h = by (turn (w .level) w work)
     where
       by : {r : List ℕ} → Turn (w .level) w work r → Marked G r w
       by (was m e) = rw e m
       by (ends s e) = rw e (mark-here work w room h)
       by (goes {w′ = w′} s e) =
-          rw e (follow-grows (w .level) w′ (set work (cell G w) 1) (marked-size work w room) (below G page words w w′ h s .byte) .more w (mark-here work w room h))
+          rw e (follow-grows (w .level) w′ (set work (cell G w) 1) (marked-size work w room) (below Y G page words w w′ h s .byte) .more w (mark-here work w room h))
 
   pub follow-within : (Q : Walk → Type 0) → Onto Q → (n : ℕ) (w : Walk) (work : List ℕ) → workBytes G ≤ length work → HasByte G w
-      → Q w → Within Q work → Within Q (follow G page words n w work)
+      → Q w → Within Q work → Within Q (follow Y G page words n w work)
   unfolding follow
   follow-within Q on zero w work room h q in-q = in-q
   follow-within Q on (suc n) w work room h q in-q =
-      by (turn n w work) (λ w′ e. follow-within Q on n w′ (set work (cell G w) 1) (marked-size work w room) (below G page words w w′ h e .byte) (on w w′ q e) marked)
+      by (turn n w work) (λ w′ e. follow-within Q on n w′ (set work (cell G w) 1) (marked-size work w room) (below Y G page words w w′ h e .byte) (on w w′ q e) marked)
     where
       marked : Within Q (set work (cell G w) 1)
       marked x hx m = pick (mark-e work w room h x hx m)
@@ -166,13 +166,13 @@ module _ (G page : ℕ) (words : List ℕ) where
           pick (inr k) = in-q x hx k
 
       by : {r : List ℕ} → Turn n w work r
-          → ((w′ : Walk) → stepIn G page words w ≡ On w′ → Within Q (follow G page words n w′ (set work (cell G w) 1))) → Within Q r
+          → ((w′ : Walk) → stepIn Y G page words w ≡ On w′ → Within Q (follow Y G page words n w′ (set work (cell G w) 1))) → Within Q r
       by (was m e) ih = rw e in-q
       by (ends s e) ih = rw e marked
       by (goes {w′ = w′} s e) ih = rw e (ih w′ s)
 
   -- a walk goes on to one walk
-  one-step : (x y z : Walk) → stepIn G page words x ≡ On y → stepIn G page words x ≡ On z → y ≡ z
+  one-step : (x y z : Walk) → stepIn Y G page words x ≡ On y → stepIn Y G page words x ≡ On z → y ≡ z
   one-step x y z p q = cc
 
   module _ (Pend : Walk → Walk → Type 0) where
@@ -181,11 +181,11 @@ module _ (G page : ℕ) (words : List ℕ) where
     Waiting w x y = Pend x y ⊎ (y ≡ w)
 
     pub follow-closed : (n : ℕ) (w : Walk) (work : List ℕ) → w .level < n → workBytes G ≤ length work → HasByte G w
-        → Closed (Waiting w) work → Closed Pend (follow G page words n w work)
+        → Closed (Waiting w) work → Closed Pend (follow Y G page words n w work)
     follow-closed zero w work lt room h c = absurd (omega arith)
     follow-closed (suc n) w work lt room h c =
         by (turn n w work)
-        (λ w′ e. follow-closed n w′ (set work (cell G w) 1) (omega (arith, below G page words w w′ h e .level)) (marked-size work w room) (below G page words w w′ h e .byte))
+        (λ w′ e. follow-closed n w′ (set work (cell G w) 1) (omega (arith, below Y G page words w w′ h e .level)) (marked-size work w room) (below Y G page words w w′ h e .byte))
       where
         g : Grows G work (set work (cell G w) 1)
         g = mark-grows work w room h
@@ -205,14 +205,14 @@ module _ (G page : ℕ) (words : List ℕ) where
             pick (inr (inl p)) = inr p
             pick (inr (inr e)) = inl (rw e m)
 
-        last : ((y : Walk) → stepIn G page words w ≡ On y → ⊥) → Closed Pend (set work (cell G w) 1)
+        last : ((y : Walk) → stepIn Y G page words w ≡ On y → ⊥) → Closed Pend (set work (cell G w) 1)
         last no-step x y hx mx s = pick (mark-e work w room h x hx mx)
           where
             pick : (x ≡ w) ⊎ Marked G work x → Marked G (set work (cell G w) 1) y ⊎ Pend x y
             pick (inl e) = absurd (no-step y (rw e at s))
             pick (inr k) = old x y (c x y hx k s)
 
-        more : (w′ : Walk) → stepIn G page words w ≡ On w′ → Closed (Waiting w′) (set work (cell G w) 1)
+        more : (w′ : Walk) → stepIn Y G page words w ≡ On w′ → Closed (Waiting w′) (set work (cell G w) 1)
         more w′ e x y hx mx s = pick (mark-e work w room h x hx mx)
           where
             up : Marked G (set work (cell G w) 1) y ⊎ Pend x y → Marked G (set work (cell G w) 1) y ⊎ Waiting w′ x y
@@ -224,7 +224,7 @@ module _ (G page : ℕ) (words : List ℕ) where
             pick (inr k) = up (old x y (c x y hx k s))
 
         by : {r : List ℕ} → Turn n w work r
-            → ((w′ : Walk) → stepIn G page words w ≡ On w′ → Closed (Waiting w′) (set work (cell G w) 1) → Closed Pend (follow G page words n w′ (set work (cell G w) 1)))
+            → ((w′ : Walk) → stepIn Y G page words w ≡ On w′ → Closed (Waiting w′) (set work (cell G w) 1) → Closed Pend (follow Y G page words n w′ (set work (cell G w) 1)))
             → Closed Pend r
         by (was m e) ih = rw e (same m)
         by (ends s e) ih = rw e (last s)
@@ -235,46 +235,46 @@ module _ (G page : ℕ) (words : List ℕ) where
   -- the walk is not marked; or it goes no further; or what it goes on to is followed
   data Again (w : Walk) (work : List ℕ) : List ℕ → Type 0 where
     unmarked : {r : List ℕ} → (Marked G work w → ⊥) → r ≡ work → Again w work r
-    stuck : {r : List ℕ} → ((y : Walk) → stepIn G page words w ≡ On y → ⊥) → r ≡ work → Again w work r
-    onto : {r : List ℕ} {y : Walk} → Marked G work w → stepIn G page words w ≡ On y → r ≡ followed G page words y work → Again w work r
+    stuck : {r : List ℕ} → ((y : Walk) → stepIn Y G page words w ≡ On y → ⊥) → r ≡ work → Again w work r
+    onto : {r : List ℕ} {y : Walk} → Marked G work w → stepIn Y G page words w ≡ On y → r ≡ followed Y G page words y work → Again w work r
 
-  again : (w : Walk) (work : List ℕ) → Again w work (reread G page words w work)
+  again : (w : Walk) (work : List ℕ) → Again w work (reread Y G page words w work)
   unfolding reread
-  again w work = go (isMarked G work w) refl (stepIn G page words w) refl
+  again w work = go (isMarked G work w) refl (stepIn Y G page words w) refl
     where
-      never : (s : Step) → stepIn G page words w ≡ s → ((y : Walk) → s ≡ On y → ⊥) → (y : Walk) → stepIn G page words w ≡ On y → ⊥
+      never : (s : Step) → stepIn Y G page words w ≡ s → ((y : Walk) → s ≡ On y → ⊥) → (y : Walk) → stepIn Y G page words w ≡ On y → ⊥
       never s e n y q = n y (sym e ∙ q)
 
-      go : (b : Bool) → isMarked G work w ≡ b → (s : Step) → stepIn G page words w ≡ s → Again w work (cond b (onward (followed G page words) s work) work)
+      go : (b : Bool) → isMarked G work w ≡ b → (s : Step) → stepIn Y G page words w ≡ s → Again w work (cond b (onward (followed Y G page words) s work) work)
       go false m s e = unmarked (eqb-false _ 1 m) refl
       go true m (On y) e = onto (eqb-true _ 1 m) e refl
       go true m Absent e = stuck (never Absent e (λ y q. let z : _≡_ {A = ℕ} 0 1 = cc in omega arith)) refl
       go true m Beyond e = stuck (never Beyond e (λ y q. let z : _≡_ {A = ℕ} 0 1 = cc in omega arith)) refl
       go true m Complete e = stuck (never Complete e (λ y q. let z : _≡_ {A = ℕ} 0 1 = cc in omega arith)) refl
 
-  reread-grows : (w : Walk) (work : List ℕ) → workBytes G ≤ length work → HasByte G w → Grows G work (reread G page words w work)
+  reread-grows : (w : Walk) (work : List ℕ) → workBytes G ≤ length work → HasByte G w → Grows G work (reread Y G page words w work)
   reread-grows w work room h = by (again w work)
     where
       by : {r : List ℕ} → Again w work r → Grows G work r
       by (unmarked n e) = rw e (grows-refl work)
       by (stuck n e) = rw e (grows-refl work)
-      by (onto {y = y} m s e) = rw e (follow-grows (suc (y .level)) y work room (below G page words w y h s .byte))
+      by (onto {y = y} m s e) = rw e (follow-grows (suc (y .level)) y work room (below Y G page words w y h s .byte))
 
   reread-within : (Q : Walk → Type 0) → Onto Q → (w : Walk) (work : List ℕ) → workBytes G ≤ length work → HasByte G w
-      → Within Q work → Within Q (reread G page words w work)
+      → Within Q work → Within Q (reread Y G page words w work)
   reread-within Q on w work room h q = by (again w work)
     where
       by : {r : List ℕ} → Again w work r → Within Q r
       by (unmarked n e) = rw e q
       by (stuck n e) = rw e q
-      by (onto {y = y} m s e) = rw e (follow-within Q on (suc (y .level)) y work room (below G page words w y h s .byte) (on w y (q w h m) s) q)
+      by (onto {y = y} m s e) = rw e (follow-within Q on (suc (y .level)) y work room (below Y G page words w y h s .byte) (on w y (q w h m) s) q)
 
   -- w itself need wait no longer
   reread-closed : (Pend : Walk → Walk → Type 0) (w : Walk) (work : List ℕ) → workBytes G ≤ length work → HasByte G w
-      → Closed (λ x y. Pend x y ⊎ (x ≡ w)) work → Closed Pend (reread G page words w work)
+      → Closed (λ x y. Pend x y ⊎ (x ≡ w)) work → Closed Pend (reread Y G page words w work)
   reread-closed Pend w work room h c = by (again w work)
     where
-      still : (Marked G work w → (y : Walk) → stepIn G page words w ≡ On y → ⊥) → Closed Pend work
+      still : (Marked G work w → (y : Walk) → stepIn Y G page words w ≡ On y → ⊥) → Closed Pend work
       still none x y hx mx s = pick (c x y hx mx s)
         where
           pick : Marked G work y ⊎ (Pend x y ⊎ (x ≡ w)) → Marked G work y ⊎ Pend x y
@@ -282,7 +282,7 @@ module _ (G page : ℕ) (words : List ℕ) where
           pick (inr (inl p)) = inr p
           pick (inr (inr e)) = absurd (none (rw e at mx) y (rw e at s))
 
-      followed-closed : (y : Walk) → stepIn G page words w ≡ On y → Closed Pend (followed G page words y work)
+      followed-closed : (y : Walk) → stepIn Y G page words w ≡ On y → Closed Pend (followed Y G page words y work)
       followed-closed y s x z hx mx q = pick (first x z hx mx q)
         where
           waiting : Closed (Waiting (λ x y. Pend x y ⊎ (x ≡ w)) y) work
@@ -292,13 +292,13 @@ module _ (G page : ℕ) (words : List ℕ) where
               up (inl k) = inl k
               up (inr p) = inr (inl p)
 
-          first : Closed (λ x y. Pend x y ⊎ (x ≡ w)) (followed G page words y work)
-          first = follow-closed (λ x y. Pend x y ⊎ (x ≡ w)) (suc (y .level)) y work (omega arith) room (below G page words w y h s .byte) waiting
+          first : Closed (λ x y. Pend x y ⊎ (x ≡ w)) (followed Y G page words y work)
+          first = follow-closed (λ x y. Pend x y ⊎ (x ≡ w)) (suc (y .level)) y work (omega arith) room (below Y G page words w y h s .byte) waiting
 
-          pick : Marked G (followed G page words y work) z ⊎ (Pend x z ⊎ (x ≡ w)) → Marked G (followed G page words y work) z ⊎ Pend x z
+          pick : Marked G (followed Y G page words y work) z ⊎ (Pend x z ⊎ (x ≡ w)) → Marked G (followed Y G page words y work) z ⊎ Pend x z
           pick (inl k) = inl k
           pick (inr (inl p)) = inr p
-          pick (inr (inr e)) = inl (rw (one-step w z y (rw e at q) s) (follow-has y work room (below G page words w y h s .byte)))
+          pick (inr (inr e)) = inl (rw (one-step w z y (rw e at q) s) (follow-has y work room (below Y G page words w y h s .byte)))
 
       by : {r : List ℕ} → Again w work r → Closed Pend r
       by (unmarked n e) = rw e (still (λ m y s. n m))
@@ -309,7 +309,7 @@ module _ (G page : ℕ) (words : List ℕ) where
 
   module _ (l f : ℕ) (hl : l ≤ 4) (hf : f < G) where
     abbrev turns : ℕ → List ℕ → List ℕ
-    turns r work = reread G page words (walkOf l f r) work
+    turns r work = reread Y G page words (walkOf l f r) work
 
     has : (r : ℕ) → r < 8 → HasByte G (walkOf l f r)
     has r hr = record { level = hl; frame = hf; rights = hr }
@@ -354,7 +354,7 @@ module _ (G page : ℕ) (words : List ℕ) where
         split x y (inr (inr t)) = inr (next x y t)
 
     all-closed : (Pend : Walk → Walk → Type 0) (work : List ℕ) → workBytes G ≤ length work
-        → Closed (λ x y. Pend x y ⊎ Rest 0 x) work → Closed Pend (rereadAll G page words l f work)
+        → Closed (λ x y. Pend x y ⊎ Rest 0 x) work → Closed Pend (rereadAll Y G page words l f work)
     unfolding rereadAll
     all-closed Pend work room c x y hx mx s = pick (each-closed Pend 8 work (omega arith) room c x y hx mx s)
       where
@@ -363,11 +363,11 @@ module _ (G page : ℕ) (words : List ℕ) where
         pick (inr (inl p)) = inr p
         pick (inr (inr (r, lo, e))) = absurd (omega (arith, hx .rights, ap (λ (v : Walk). v .rights) e))
 
-    pub all-grows : (work : List ℕ) → workBytes G ≤ length work → Grows G work (rereadAll G page words l f work)
+    pub all-grows : (work : List ℕ) → workBytes G ≤ length work → Grows G work (rereadAll Y G page words l f work)
     unfolding rereadAll
     all-grows work room = each-grows 8 work (omega arith) room
 
-    all-within : (Q : Walk → Type 0) → Onto Q → (work : List ℕ) → workBytes G ≤ length work → Within Q work → Within Q (rereadAll G page words l f work)
+    all-within : (Q : Walk → Type 0) → Onto Q → (work : List ℕ) → workBytes G ≤ length work → Within Q work → Within Q (rereadAll Y G page words l f work)
     unfolding rereadAll
     all-within Q on work room q = each-within Q on 8 work (omega arith) room q
 
@@ -377,35 +377,35 @@ module _ (G page : ℕ) (words : List ℕ) where
     -- at level l or below, their entry lies in word a
     pub record Stands (l : ℕ) (x : Walk) : Type 0 where
       pub frame : x .frame .0 ≡ a / frameWords
-      pub index : index tables64 page (x .level) ≡ a % frameWords
+      pub place : Y .place (a / frameWords) (index Y page (x .level)) ≡ a
       pub level : x .level ≤ l
 
     frame-in : a / frameWords < G
     frame-in = omega arith
 
-    at-by : (P : List ℕ → Type 0) (l : ℕ) (work : List ℕ) → (index tables64 page l ≡ a % frameWords → P (rereadAll G page words l (a / frameWords) work))
-        → ((index tables64 page l ≡ a % frameWords → ⊥) → P work) → P (rereadAt G page words a l work)
+    at-by : (P : List ℕ → Type 0) (l : ℕ) (work : List ℕ) → (Y .place (a / frameWords) (index Y page l) ≡ a → P (rereadAll Y G page words l (a / frameWords) work))
+        → ((Y .place (a / frameWords) (index Y page l) ≡ a → ⊥) → P work) → P (rereadAt Y G page words a l work)
     unfolding rereadAt
-    at-by P l work here there = go (eqb (index tables64 page l) (a % frameWords)) refl
+    at-by P l work here there = go (eqb (Y .place (a / frameWords) (index Y page l)) a) refl
       where
-        go : (b : Bool) → eqb (index tables64 page l) (a % frameWords) ≡ b → P (cond b (rereadAll G page words l (a / frameWords) work) work)
+        go : (b : Bool) → eqb (Y .place (a / frameWords) (index Y page l)) a ≡ b → P (cond b (rereadAll Y G page words l (a / frameWords) work) work)
         go true e = here (eqb-true _ _ e)
         go false e = there (eqb-false _ _ e)
 
-    at-grows : (l : ℕ) (work : List ℕ) → l ≤ 4 → workBytes G ≤ length work → Grows G work (rereadAt G page words a l work)
+    at-grows : (l : ℕ) (work : List ℕ) → l ≤ 4 → workBytes G ≤ length work → Grows G work (rereadAt Y G page words a l work)
     at-grows l work le room = at-by (λ r. Grows G work r) l work (λ e. all-grows l (a / frameWords) le frame-in work room) (λ n. grows-refl work)
 
-    at-within : (Q : Walk → Type 0) → Onto Q → (l : ℕ) (work : List ℕ) → l ≤ 4 → workBytes G ≤ length work → Within Q work → Within Q (rereadAt G page words a l work)
+    at-within : (Q : Walk → Type 0) → Onto Q → (l : ℕ) (work : List ℕ) → l ≤ 4 → workBytes G ≤ length work → Within Q work → Within Q (rereadAt Y G page words a l work)
     at-within Q on l work le room q = at-by (λ r. Within Q r) l work (λ e. all-within l (a / frameWords) le frame-in Q on work room q) (λ n. q)
 
     at-closed : (l : ℕ) (work : List ℕ) → suc l ≤ 4 → workBytes G ≤ length work
-        → Closed (λ x y. Stands (suc l) x) work → Closed (λ x y. Stands l x) (rereadAt G page words a (suc l) work)
+        → Closed (λ x y. Stands (suc l) x) work → Closed (λ x y. Stands l x) (rereadAt Y G page words a (suc l) work)
     at-closed l work le room c = at-by (λ r. Closed (λ x y. Stands l x) r) (suc l) work here there
       where
         lower : (x : Walk) → Stands (suc l) x → (x .level ≡ suc l → ⊥) → Stands l x
-        lower x t n = record { frame = t .frame; index = t .index; level = omega (arith, t .level) }
+        lower x t n = record { frame = t .frame; place = t .place; level = omega (arith, t .level) }
 
-        here : index tables64 page (suc l) ≡ a % frameWords → Closed (λ x y. Stands l x) (rereadAll G page words (suc l) (a / frameWords) work)
+        here : Y .place (a / frameWords) (index Y page (suc l)) ≡ a → Closed (λ x y. Stands l x) (rereadAll Y G page words (suc l) (a / frameWords) work)
         here e = all-closed (suc l) (a / frameWords) le frame-in (λ x y. Stands l x) work room (λ x y hx mx s. pick x y (c x y hx mx s))
           where
             level : (x : Walk) → Stands (suc l) x → Dec (x .level ≡ suc l) → Stands l x ⊎ Rest (suc l) (a / frameWords) le frame-in 0 x
@@ -416,35 +416,35 @@ module _ (G page : ℕ) (words : List ℕ) where
             pick x y (inl k) = inl k
             pick x y (inr t) = inr (level x t (ℕ-discrete (x .level) (suc l)))
 
-        there : (index tables64 page (suc l) ≡ a % frameWords → ⊥) → Closed (λ x y. Stands l x) work
+        there : (Y .place (a / frameWords) (index Y page (suc l)) ≡ a → ⊥) → Closed (λ x y. Stands l x) work
         there n x y hx mx s = pick (c x y hx mx s)
           where
             pick : Marked G work y ⊎ Stands (suc l) x → Marked G work y ⊎ Stands l x
             pick (inl k) = inl k
-            pick (inr t) = inr (lower x t (λ p. n (ap (index tables64 page) (sym p) ∙ t .index)))
+            pick (inr t) = inr (lower x t (λ p. n (ap (λ (l : ℕ). Y .place (a / frameWords) (index Y page l)) (sym p) ∙ t .place)))
 
-    pub word-grows : (l : ℕ) (work : List ℕ) → l ≤ 4 → workBytes G ≤ length work → Grows G work (rereadWord G page words a l work)
+    pub word-grows : (l : ℕ) (work : List ℕ) → l ≤ 4 → workBytes G ≤ length work → Grows G work (rereadWord Y G page words a l work)
     unfolding rereadWord
     word-grows zero work le room = grows-refl work
     word-grows (suc l) work le room =
         let g = at-grows (suc l) work le room in
-        grows-trans g (word-grows l (rereadAt G page words a (suc l) work) (omega arith) (omega (arith, g .size)))
+        grows-trans g (word-grows l (rereadAt Y G page words a (suc l) work) (omega arith) (omega (arith, g .size)))
 
     pub word-within : (Q : Walk → Type 0) → Onto Q → (l : ℕ) (work : List ℕ) → l ≤ 4 → workBytes G ≤ length work
-        → Within Q work → Within Q (rereadWord G page words a l work)
+        → Within Q work → Within Q (rereadWord Y G page words a l work)
     unfolding rereadWord
     word-within Q on zero work le room q = q
     word-within Q on (suc l) work le room q =
-        word-within Q on l (rereadAt G page words a (suc l) work) (omega arith) (omega (arith, at-grows (suc l) work le room .size)) (at-within Q on (suc l) work le room q)
+        word-within Q on l (rereadAt Y G page words a (suc l) work) (omega arith) (omega (arith, at-grows (suc l) work le room .size)) (at-within Q on (suc l) work le room q)
 
     -- THE MARKED WALKS ARE CLOSED AGAIN
     pub word-closed : (l : ℕ) (work : List ℕ) → l ≤ 4 → workBytes G ≤ length work
-        → Closed (λ x y. Stands l x) work → Closed (λ x y. ⊥) (rereadWord G page words a l work)
+        → Closed (λ x y. Stands l x) work → Closed (λ x y. ⊥) (rereadWord Y G page words a l work)
     unfolding rereadWord
     word-closed zero work le room c = λ x y hx mx s. pick x y hx s (c x y hx mx s)
       where
-        pick : (x y : Walk) → HasByte G x → stepIn G page words x ≡ On y → Marked G work y ⊎ Stands 0 x → Marked G work y ⊎ ⊥
+        pick : (x y : Walk) → HasByte G x → stepIn Y G page words x ≡ On y → Marked G work y ⊎ Stands 0 x → Marked G work y ⊎ ⊥
         pick x y hx s (inl k) = inl k
-        pick x y hx s (inr t) = absurd (omega (arith, t .level, below G page words x y hx s .level))
+        pick x y hx s (inr t) = absurd (omega (arith, t .level, below Y G page words x y hx s .level))
     word-closed (suc l) work le room c =
-        word-closed l (rereadAt G page words a (suc l) work) (omega arith) (omega (arith, at-grows (suc l) work le room .size)) (at-closed l work le room c)
+        word-closed l (rereadAt Y G page words a (suc l) work) (omega arith) (omega (arith, at-grows (suc l) work le room .size)) (at-closed l work le room c)

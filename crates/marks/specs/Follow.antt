@@ -2,7 +2,7 @@
 -- shows that they mark exactly the held walks.
 use mathlib.Core.Bool.{Bool, cond}
 use mathlib.Core.List.{List}
-use Prim.Native.Nat.{ℕ, zero, suc, _+_, _-_, _*_, _/_, _%_}
+use Prim.Native.Nat.{ℕ, zero, suc, _+_, _-_, _*_, _/_}
 use lib.Dec.{eqb}
 use lib.ListN.{getD, set}
 use Rattle.paging.specs.declared.Guest.{Guest}
@@ -11,7 +11,7 @@ use Rattle.paging.specs.declared.Step.{Step}
 use Rattle.paging.specs.declared.Step.the-variants.{On, Absent, Beyond, Complete}
 use Rattle.paging.specs.Numbers.{each}
 use Rattle.paging.specs.Frame.{guest}
-use Rattle.paging.specs.Layout.{tables64, frameWords, get, index}
+use Rattle.paging.specs.Layout.{Layout, frameWords, get, index}
 use Rattle.paging.specs.Walk.{start, step}
 use Rattle.marks.specs.Work.{cell, workBytes}
 
@@ -33,10 +33,10 @@ unfoldable pub cleared : ℕ → ℕ → List ℕ → List ℕ
 cleared k zero work = work
 cleared k (suc n) work = cleared (k + 1) n (set work k 0)
 
-module _ (G page : ℕ) (words : List ℕ) where
+module _ (Y : Layout) (G page : ℕ) (words : List ℕ) where
   -- what a walk does with these words
   unfoldable pub stepIn : Walk → Step
-  stepIn w = step tables64 G w (get tables64 words (w .frame .0) (index tables64 page (w .level)))
+  stepIn w = step Y G w (get Y words (w .frame .0) (index Y page (w .level)))
 
   -- a walk is marked, then what it goes on to, until one is marked already or goes no further
   unfoldable pub follow : ℕ → Walk → List ℕ → List ℕ
@@ -54,9 +54,9 @@ module _ (G page : ℕ) (words : List ℕ) where
   unfoldable pub rereadAll : ℕ → ℕ → List ℕ → List ℕ
   rereadAll l f work = each 8 (λ r. reread (walkOf l f r)) work
 
-  -- those of level l that read word a, if the page's entry lies there
+  -- those of level l that read word a, if the page's entry of a walk on that frame lies there
   unfoldable pub rereadAt : ℕ → ℕ → List ℕ → List ℕ
-  rereadAt a l work = cond (eqb (index tables64 page l) (a % frameWords)) (rereadAll l (a / frameWords) work) work
+  rereadAt a l work = cond (eqb (Y .place (a / frameWords) (index Y page l)) a) (rereadAll l (a / frameWords) work) work
 
   -- the levels l to 1, from the upper down
   unfoldable pub rereadWord : ℕ → ℕ → List ℕ → List ℕ
@@ -65,4 +65,4 @@ module _ (G page : ℕ) (words : List ℕ) where
 
   -- the bytes from k on are forgotten, and the walk from the root is followed
   unfoldable pub restarted : ℕ → Guest → List ℕ → List ℕ
-  restarted k cr3 work = followed (start tables64 cr3) (cleared k (workBytes G - k) work)
+  restarted k cr3 work = followed (start Y cr3) (cleared k (workBytes G - k) work)

@@ -6,7 +6,7 @@ use paging::Walk;
 ghost use mathlib.Core.Path.{_≡_};
 ghost use Prim.Native.Nat.{ℕ, _+_, _-_, _*_, _≤_, _<_};
 ghost use lib.ListN.{length};
-ghost use Rattle.paging.specs.Layout.{frameWords};
+ghost use Rattle.paging.specs.Layout.{tables64, frameWords};
 ghost use Rattle.marks.specs.Work.{cell, workBytes, HasByte, Room};
 ghost use Rattle.marks.specs.Follow.{walkOf, stepIn, followed, reread, rereadAll, rereadAt, rereadWord, cleared, restarted};
 ghost use Rattle.paging.specs.declared.Guest.{Guest};
@@ -24,7 +24,7 @@ pub fn cell_of(frames: u64, w: Walk) -> usize
 
 pub fn next(words: &[u64], frames: u64, page: u64, w: Walk) -> Step
     requires { ⌜ (length (now words) ≡ frameWords * frames) × HasByte frames w ⌝ }
-    ensures { λ r. ⌜ r ≡ stepIn frames page (now (words .entry)) w ⌝ }
+    ensures { λ r. ⌜ r ≡ stepIn tables64 frames page (now (words .entry)) w ⌝ }
 {
     let level = w.level;
     if level == 0 {
@@ -38,7 +38,7 @@ pub fn next(words: &[u64], frames: u64, page: u64, w: Walk) -> Step
 // Marks w and all it goes on to; a marked walk ends it, since what that goes on to is marked or will be read again.
 pub fn follow(words: &[u64], work: &mut [u8], frames: u64, page: u64, from: Walk)
     requires { ⌜ Room frames (now words) (now work) × HasByte frames from ⌝ }
-    ensures { λ r. ⌜ now (work .exit) ≡ followed frames page (now (words .entry)) from (now (work .entry)) ⌝ }
+    ensures { λ r. ⌜ now (work .exit) ≡ followed tables64 frames page (now (words .entry)) from (now (work .entry)) ⌝ }
 {
     let mut w = from;
     loop {
@@ -57,7 +57,7 @@ pub fn follow(words: &[u64], work: &mut [u8], frames: u64, page: u64, from: Walk
 // Follows what a marked walk goes on to now.
 fn reread(words: &[u64], work: &mut [u8], frames: u64, page: u64, w: Walk)
     requires { ⌜ Room frames (now words) (now work) × HasByte frames w ⌝ }
-    ensures { λ r. ⌜ now (work .exit) ≡ reread frames page (now (words .entry)) w (now (work .entry)) ⌝ }
+    ensures { λ r. ⌜ now (work .exit) ≡ reread tables64 frames page (now (words .entry)) w (now (work .entry)) ⌝ }
 {
     let k = cell_of(frames, w);
     if work[k] != 1 {
@@ -71,7 +71,7 @@ fn reread(words: &[u64], work: &mut [u8], frames: u64, page: u64, w: Walk)
 
 fn reread_all(words: &[u64], work: &mut [u8], frames: u64, page: u64, level: u64, f: u64)
     requires { ⌜ Room frames (now words) (now work) × (level ≤ 4) × (f < frames) ⌝ }
-    ensures { λ r. ⌜ now (work .exit) ≡ rereadAll frames page (now (words .entry)) level f (now (work .entry)) ⌝ }
+    ensures { λ r. ⌜ now (work .exit) ≡ rereadAll tables64 frames page (now (words .entry)) level f (now (work .entry)) ⌝ }
 {
     let mut r = 0;
     while r < 8 {
@@ -87,7 +87,7 @@ fn reread_all(words: &[u64], work: &mut [u8], frames: u64, page: u64, level: u64
 
 fn reread_at(words: &[u64], work: &mut [u8], frames: u64, page: u64, a: u64, level: u64)
     requires { ⌜ Room frames (now words) (now work) × (1 ≤ level) × (level ≤ 4) × (a < frameWords * frames) ⌝ }
-    ensures { λ r. ⌜ now (work .exit) ≡ rereadAt frames page (now (words .entry)) a level (now (work .entry)) ⌝ }
+    ensures { λ r. ⌜ now (work .exit) ≡ rereadAt tables64 frames page (now (words .entry)) a level (now (work .entry)) ⌝ }
 {
     if paging::index_of(page, level) != (a % WORDS) as usize {
         return;
@@ -98,7 +98,7 @@ fn reread_at(words: &[u64], work: &mut [u8], frames: u64, page: u64, a: u64, lev
 // Word a was stored: the walks that stand on it are followed again, from the upper level down.
 pub fn reread_word(words: &[u64], work: &mut [u8], frames: u64, page: u64, a: u64)
     requires { ⌜ Room frames (now words) (now work) × (a < frameWords * frames) ⌝ }
-    ensures { λ r. ⌜ now (work .exit) ≡ rereadWord frames page (now (words .entry)) a 4 (now (work .entry)) ⌝ }
+    ensures { λ r. ⌜ now (work .exit) ≡ rereadWord tables64 frames page (now (words .entry)) a 4 (now (work .entry)) ⌝ }
 {
     let mut level = 4;
     while level > 0 {
@@ -121,7 +121,7 @@ fn clear(work: &mut [u8], from: usize, to: usize)
 // Walks from byte `from` on are forgotten; the walk from the root begins anew.
 pub fn restart(words: &[u64], work: &mut [u8], frames: u64, page: u64, from: usize, cr3: Guest)
     requires { ⌜ Room frames (now words) (now work) × (from ≤ workBytes frames) × (cr3 .0 < frames) ⌝ }
-    ensures { λ r. ⌜ now (work .exit) ≡ restarted frames page (now (words .entry)) from cr3 (now (work .entry)) ⌝ }
+    ensures { λ r. ⌜ now (work .exit) ≡ restarted tables64 frames page (now (words .entry)) from cr3 (now (work .entry)) ⌝ }
 {
     clear(work, from, (40 * frames) as usize);
     follow(words, work, frames, page, Walk::start(cr3));

@@ -34,6 +34,7 @@ pub record Sound (Y : Layout) : Type 0 where
   -- entries of different frames lie in different words, and all in the words of their frame
   pub apart : (f g i j : ℕ) → i < 2 ^ Y .indexBits → j < 2 ^ Y .indexBits → Y .place f i ≡ Y .place g j → f ≡ g
   pub inside : (f G i : ℕ) → i < 2 ^ Y .indexBits → f < G → Y .place f i < frameWords * G
+  pub above : (f G i : ℕ) → G ≤ f → frameWords * G ≤ Y .place f i
   -- an entry that is put in is found again, and the others of its word stay
   pub joined : (i w e : ℕ) → e < 2 ^ Y .entryBits → Y .part i (Y .join i w e) ≡ e
   pub beside : (f i j w e : ℕ) → i < 2 ^ Y .indexBits → j < 2 ^ Y .indexBits → (i ≡ j → ⊥) → Y .place f i ≡ Y .place f j
@@ -107,6 +108,7 @@ tables64-sound = record {
   some-level = omega arith;
   apart = λ f g i j hi hj e. omega arith;
   inside = λ f G i hi h. omega arith;
+  above = λ f G i h. omega arith;
   joined = λ i w e h. refl;
   beside = λ f i j w e hi hj ne same. absurd (ne (omega arith));
   marked = λ k i w h. refl;
@@ -151,6 +153,10 @@ module _ (Y : Layout) (ok : Sound Y) where
           ∙ ap (Y .part j) (getD-set-same ws (Y .place f i) word 0 h)
           ∙ ok .beside f i j _ e hi hj (ne fg) at-f s
           ∙ ap (λ (k : ℕ). Y .part j (getD ws k 0)) (sym same)
+
+  -- the frame of a word is that of its entries
+  pub place-frame : (f i : ℕ) → i < 2 ^ Y .indexBits → Y .place f i / frameWords ≡ f
+  place-frame f i h = omega (arith, ok .inside f (f + 1) i h (omega arith), ok .above f f i (omega arith))
 
   -- past the words stand zeros
   pub get-past : (ws : List ℕ) (f i : ℕ) → length ws ≤ Y .place f i → get Y ws f i ≡ 0

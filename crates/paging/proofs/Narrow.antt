@@ -76,6 +76,7 @@ tables32-sound = record {
   some-level = omega arith;
   apart = λ f g i j hi hj e. omega arith;
   inside = λ f G i hi h. omega arith;
+  above = λ f G i h. omega arith;
   joined = λ i w e h. found (i % 2) w e h;
   beside = λ f i j w e hi hj ne same h. other (i % 2) (j % 2) w e (omega arith) (omega arith) (λ q. ne (omega arith)) h;
   marked = λ k i w flag. found (i % 2) w (mark k (half (i % 2) w)) (mark-small k (half (i % 2) w) flag (half-small (i % 2) w));

@@ -30,7 +30,6 @@ laid64 = record {
   upper = omega arith;
   fits = λ r d f hr hd hf. small (bit r 0) (bit r 1) d f (1 - bit r 2) (omega arith) (omega arith) hd hf (omega arith);
   grants = λ e q. absurd (omega (arith, q));
-  past = λ t i n h. omega arith;
 }
 
 pub able64 : (z : Sizes) → Sized z → Able (machine64 z)
@@ -51,7 +50,6 @@ laid32 = record {
   upper = omega arith;
   fits = λ r d f hr hd hf. small32 (bit r 0) (bit r 1) d f (1 - bit r 2) (omega arith) (omega arith) hd hf;
   grants = λ e q. x-granted (e / 2 ^ 1) (e / 2 ^ 2);
-  past = λ t i n h. omega arith;
 }
 
 -- ---- stores

@@ -18,7 +18,6 @@ pub record Laid (Y : Layout) : Type 0 where
   pub upper : 1 < Y .levels
   pub fits : (r d f : ℕ) → r < 8 → d < 2 → f < 2 ^ Y .frameBits → compose Y r d f < 2 ^ Y .entryBits
   pub grants : (e : ℕ) → Y .nxAlone ≡ 0 → bit (rightsOf Y e) 2 ≡ 1
-  pub past : (t i n : ℕ) → n ≤ t → frameWords * n ≤ Y .place t i
 
 -- what is asked of the machine: a sound layout, tables in every share, entries that fit, a pool within the frames
 pub record Able (M : Machine) : Type 0 where
@@ -41,7 +40,7 @@ able M laid some room = record {
   room = room;
   fits = laid .fits;
   grants = laid .grants;
-  past = λ pool e t i h. get-past (M .tables) (laid .sound) pool t i (omega (arith, laid .past t i (tableCount M) h, e));
+  past = λ pool e t i h. get-past (M .tables) (laid .sound) pool t i (omega (arith, laid .sound .above t (tableCount M) i h, e));
 }
 
 -- no map frame lies in the pool

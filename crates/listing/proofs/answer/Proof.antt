@@ -44,7 +44,7 @@ returns c =
     let page = c .before .before .before .before .before .before .before .before .before .before .before .before .before .before .before .before .before .before .before .page-of .ensures in
     let did = c .before .before .before .before .before .before .before .before .before .before .before .replay .ensures
     ∙ ap (λ (l : List ℕ). replayed (a .frames) (a .q .proc) (c .before .before .before .before .before .before .before .before .before .before .before .before .before .before .before .before .before .before .before .page-of .result) (a .events .now) n (replayOf (a .start) (a .words .now) l)) (c .before .before .before .before .before .before .before .before .before .before .before .before .before .before .before .before .restart .ensures)
-    ∙ ap (λ (v : ℕ). replayed (a .frames) (a .q .proc) v (a .events .now) n (replayOf (a .start) (a .words .now) (restarted (a .frames) v (a .words .now) 0 (guest (a .start)) (a .work .now)))) page in
+    ∙ ap (λ (v : ℕ). replayed (a .frames) (a .q .proc) v (a .events .now) n (replayOf (a .start) (a .words .now) (restarted tables64 (a .frames) v (a .words .now) 0 (guest (a .start)) (a .work .now)))) page in
     record {
       words-are = ap (λ (s : Replay). s .words) did;
       work-is = ap (λ (s : Replay). s .work) did;

@@ -47,7 +47,7 @@ returns-3 : tie.Need-returns-3
 returns-3 c =
     let a = c .before .before .before .before .before .before .before .before .before .before .before .before .args in
     ap (replayOf (a .cr3) (a .words .now))
-    (c .before .before .restart .ensures ∙ ap (λ (k : ℕ). restarted (a .frames) (a .page) (a .words .now) k (guest (a .cr3)) (a .work .now)) (c .before .before .before .before .before .forgotten .ensures))
+    (c .before .before .restart .ensures ∙ ap (λ (k : ℕ). restarted tables64 (a .frames) (a .page) (a .words .now) k (guest (a .cr3)) (a .work .now)) (c .before .before .before .before .before .forgotten .ensures))
     ∙ sym (applied-invlpg (a .frames) (a .p) (a .page) (a .e) (replayOf (a .cr3) (a .words .now) (a .work .now)) (c .before .before .before .before .before .before .before .before .before .if1 .left) (c .before .before .before .before .before .before .before .if2 .left) (c .before .before .before .before .before .before .if3 .taken))
 
 restart-requires-2 : tie.Need-restart-requires-2

@@ -12,6 +12,7 @@ use Rattle.listing.specs.Collect.{stopCode}
 use Rattle.listing.proofs.Bytes.{byte-walk}
 use Rattle.listing.proofs.stop_at.Statement.{statement}
 use Rattle.listing.proofs.stop_at.Tie as tie
+use Rattle.paging.specs.Layout.{tables64}
 
 returns : tie.Need-returns
 returns c = let a = c .before .before .before .before .args in simp (ne-eqb (getD (a .work .now) (a .k) 0) 1 (c .if1 .taken))
@@ -25,7 +26,7 @@ next-requires c κs =
 returns-2 : tie.Need-returns-2
 returns-2 c =
     let a = c .before .before .before .before .before .before .before .args in
-    let s = c .before .next .ensures ∙ ap (λ (w : Walk). stepIn (a .frames) (a .page) (a .words .now) w) (c .before .before .walk-at .ensures) in
+    let s = c .before .next .ensures ∙ ap (λ (w : Walk). stepIn tables64 (a .frames) (a .page) (a .words .now) w) (c .before .before .walk-at .ensures) in
     simp (eq-eqb (getD (a .work .now) (a .k) 0) 1 (c .before .before .before .if1 .left)) (c .stop-code .ensures ∙ ap (λ (s : Step). stopCode s) s)
 
 pub stop-at-spec : {M : Type 1} → statement M

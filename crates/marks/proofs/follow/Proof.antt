@@ -14,10 +14,11 @@ use Rattle.marks.proofs.follow.Reads as reads
 use Rattle.marks.proofs.follow.Lts as lts
 use Rattle.marks.proofs.cell_of.Reads as cell-of-reads
 use Rattle.marks.proofs.next.Reads as next-reads
+use Rattle.paging.specs.Layout.{tables64}
 
 abbrev Inv-loop : tie.InvT-loop
 Inv-loop words work₀ frames page w₀ work w =
-    HasByte frames w × (length work ≡ length work₀) × (followed frames page words w work ≡ followed frames page words w₀ work₀)
+    HasByte frames w × (length work ≡ length work₀) × (followed tables64 frames page words w work ≡ followed tables64 frames page words w₀ work₀)
 
 abbrev μ-loop : tie.MeasureT-loop
 μ-loop words work₀ frames page w₀ work w = w .level
@@ -33,7 +34,7 @@ returns c =
     let w = c .before .before .before .loop .w in
     let work = c .before .before .before .loop .work in
     let m = ap (λ (k : ℕ). getD work k 0) (sym (c .before .before .cell-of .ensures)) ∙ c .if1 .taken in
-    sym (follow-marked (a .frames) (a .page) (a .words .now) w work m) ∙ c .before .before .before .loop .inv .2
+    sym (follow-marked tables64 (a .frames) (a .page) (a .words .now) w work m) ∙ c .before .before .before .loop .inv .2
 
 slice-write-work : tie.Need-slice-write-work Inv-loop μ-loop
 slice-write-work c =
@@ -51,13 +52,13 @@ returns-2 c =
     let new : getD work (cell (a .frames) w) 0 ≡ 1 → ⊥ = λ m. c .before .before .if1 .left (ap (λ (k : ℕ). getD work k 0) k ∙ m) in
     ap (λ (k : ℕ). set work k 1) k
     ∙ sym (stops _ (c .before .next .result) (set work (cell (a .frames) w) 1) (c .match .keys2))
-    ∙ sym (follow-new (a .frames) (a .page) (a .words .now) w work new (c .before .next .result) (sym (c .before .next .ensures)))
+    ∙ sym (follow-new tables64 (a .frames) (a .page) (a .words .now) w work new (c .before .next .result) (sym (c .before .next .ensures)))
     ∙ c .before .before .before .before .before .loop .inv .2
 
 loop-less : tie.Need-loop-less Inv-loop μ-loop
 loop-less c =
     let a = c .before .before .before .before .before .before .before .before .before .before .args in
-    let h = below (a .frames) (a .page) (a .words .now) (c .before .before .before .before .before .before .before .loop .w) (c .before .on .given .0 .0) (c .before .before .before .before .before .before .before .loop .inv .0) (sym (c .before .before .before .next .ensures) ∙ c .before .on .given .1) in
+    let h = below tables64 (a .frames) (a .page) (a .words .now) (c .before .before .before .before .before .before .before .loop .w) (c .before .on .given .0 .0) (c .before .before .before .before .before .before .before .loop .inv .0) (sym (c .before .before .before .next .ensures) ∙ c .before .on .given .1) in
     omega (arith, h .level)
 
 loop-again : tie.Need-loop-again Inv-loop μ-loop
@@ -70,10 +71,10 @@ loop-again c =
     let new : getD work (cell (a .frames) w) 0 ≡ 1 → ⊥ = λ m. c .before .before .before .before .if1 .left (ap (λ (k : ℕ). getD work k 0) k ∙ m) in
     let e = sym (c .before .before .before .next .ensures) ∙ c .before .on .given .1 in
     let has = c .before .before .before .before .before .before .before .loop .inv .0 in (
-      below (a .frames) (a .page) (a .words .now) w on has e .byte,
+      below tables64 (a .frames) (a .page) (a .words .now) w on has e .byte,
       simp length-set (c .before .before .before .before .before .before .before .loop .inv .1),
-      ap (λ (k : ℕ). followed (a .frames) (a .page) (a .words .now) on (set work k 1)) k
-          ∙ sym (follow-on (a .frames) (a .page) (a .words .now) w work new on has e) ∙ c .before .before .before .before .before .before .before .loop .inv .2,
+      ap (λ (k : ℕ). followed tables64 (a .frames) (a .page) (a .words .now) on (set work k 1)) k
+          ∙ sym (follow-on tables64 (a .frames) (a .page) (a .words .now) w work new on has e) ∙ c .before .before .before .before .before .before .before .loop .inv .2,
     )
 
 pub follow-spec : {M : Type 1} → statement M

@@ -10,9 +10,10 @@ use Rattle.marks.specs.Work.{Room}
 use Rattle.marks.specs.Follow.{walkOf, reread, rereadAll}
 use Rattle.marks.proofs.reread_all.Statement.{statement}
 use Rattle.marks.proofs.reread_all.Tie as tie
+use Rattle.paging.specs.Layout.{tables64}
 
 abbrev turn : ℕ → ℕ → List ℕ → ℕ → ℕ → ℕ → List ℕ → List ℕ
-turn frames page words level f r work = reread frames page words (walkOf level f r) work
+turn frames page words level f r work = reread tables64 frames page words (walkOf level f r) work
 
 abbrev Inv-loop : tie.InvT-loop
 Inv-loop words work₀ frames page level f r₀ work r =

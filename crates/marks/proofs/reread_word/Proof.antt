@@ -8,10 +8,11 @@ use Rattle.marks.specs.Follow.{rereadWord}
 use Rattle.marks.proofs.Follows.{reread-turn, reread-done}
 use Rattle.marks.proofs.reread_word.Statement.{statement}
 use Rattle.marks.proofs.reread_word.Tie as tie
+use Rattle.paging.specs.Layout.{tables64}
 
 abbrev Inv-loop : tie.InvT-loop
 Inv-loop words work₀ frames page a level₀ work level =
-    (level ≤ 4) × (length work ≡ length work₀) × (rereadWord frames page words a level work ≡ rereadWord frames page words a 4 work₀)
+    (level ≤ 4) × (length work ≡ length work₀) × (rereadWord tables64 frames page words a level work ≡ rereadWord tables64 frames page words a 4 work₀)
 
 abbrev μ-loop : tie.MeasureT-loop
 μ-loop words work₀ frames page a level₀ work level = level
@@ -29,14 +30,14 @@ loop-again c =
     let inv = c .before .before .before .before .before .loop .inv in (
       omega arith,
       c .before .before .reread-at .kept .1 .0 ∙ inv .1,
-      ap (rereadWord (a .frames) (a .page) (a .words .now) (a .a) (l - 1)) (c .before .before .reread-at .ensures)
-          ∙ sym (reread-turn (a .frames) (a .page) (a .words .now) (a .a) l (c .before .before .before .before .before .loop .work) (omega arith)) ∙ inv .2,
+      ap (rereadWord tables64 (a .frames) (a .page) (a .words .now) (a .a) (l - 1)) (c .before .before .reread-at .ensures)
+          ∙ sym (reread-turn tables64 (a .frames) (a .page) (a .words .now) (a .a) l (c .before .before .before .before .before .loop .work) (omega arith)) ∙ inv .2,
     )
 
 returns : tie.Need-returns Inv-loop μ-loop
 returns c =
     let a = c .before .before .before .before .args in
-    sym (reread-done (a .frames) (a .page) (a .words .now) (a .a) (c .before .loop .level) (c .before .loop .work) (omega arith)) ∙ c .before .loop .inv .2
+    sym (reread-done tables64 (a .frames) (a .page) (a .words .now) (a .a) (c .before .loop .level) (c .before .loop .work) (omega arith)) ∙ c .before .loop .inv .2
 
 pub reread-word-spec : {M : Type 1} → statement M
 reread-word-spec =

@@ -25,7 +25,7 @@ unfolding restarted
 returns c =
     let a = c .before .before .before .before .before .before .before .before .before .before .before .args in
     c .before .before .follow .ensures
-    ∙ ap₂ (λ (w : Walk) (l : List ℕ). followed (a .frames) (a .page) (a .words .now) w l) (c .before .before .before .start .ensures) (c .before .before .before .before .before .before .before .clear .ensures)
+    ∙ ap₂ (λ (w : Walk) (l : List ℕ). followed tables64 (a .frames) (a .page) (a .words .now) w l) (c .before .before .before .start .ensures) (c .before .before .before .before .before .before .before .clear .ensures)
 
 pub restart-spec : {M : Type 1} → statement M
 restart-spec =
