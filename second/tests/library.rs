@@ -1,4 +1,4 @@
-//! The script of the proved program `machine` (crates/machine), played by the second program's own setup and event
+//! The script of the proved program `script` (crates/script), played by the second program's own setup and event
 //! calls: every line that it prints must be the one expected there.
 
 use second::flat::{self, Reply, Shadow, Sizes};
@@ -122,8 +122,8 @@ fn the_library_script_says_the_same() {
         records: vec![0; 40],
         slots: vec![0; 120],
     };
-    let script = include_str!("../../crates/machine/stdin");
-    let expected = include_str!("../../crates/machine/stdout");
+    let script = include_str!("../../crates/script/stdin");
+    let expected = include_str!("../../crates/script/stdout");
     let mut lines = expected.lines();
     for said in script.lines().filter_map(|line| desk.take(line)) {
         assert_eq!(Some(said.as_str()), lines.next());

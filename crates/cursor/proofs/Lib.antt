@@ -1,4 +1,4 @@
 pub mod Lines
-pub mod Runs
+pub mod DigitRuns
 pub mod Decimals
 pub mod Lies

@@ -17,7 +17,7 @@ use Rattle.rules.specs.History.{isAccess, eventAt}
 use Rattle.rules.specs.Numbers.{eventsOf}
 use Rattle.rules.specs.Outcome.{RightAt}
 use Rattle.listing.specs.declared.Listed.{Listed}
-use Rattle.listing.specs.Call.{Asked, Lent, setupOf, listRefusal, countOf, Lists, ListCall}
+use Rattle.listing.specs.Call.{Asked, Lent, setupAsked, listRefusal, countOf, Lists, ListCall}
 use Rattle.listing.proofs.Theorems as listing
 use Rattle.tables.specs.declared.Sizes.{Sizes}
 use Rattle.tables.specs.State.{State, machine64}
@@ -39,7 +39,7 @@ use Rattle.trainer.specs.Run.{sizesOf, RunCall}
 use Rattle.trainer.proofs.Theorems as trainer
 use Rattle.promise.specs.Demand.{Accepts, Demand, SettlesInTwo}
 use Rattle.promise.proofs.Theorems as promise
-use Rattle.demands.proofs.Runs.{machineFor, runFor, same-answer, run-sized}
+use Rattle.demands.proofs.RunProgram.{machineFor, runFor, same-answer, run-sized}
 
 -- ---- DEMAND 1: "on refusal returns document 01's number and changes no lent buffer". That a call takes any input, ends and
 -- does not fault is what the kit proves of a function without `requires`.

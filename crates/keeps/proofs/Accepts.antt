@@ -16,7 +16,7 @@ use Rattle.shadow.proofs.Sizing.{Ranged}
 use Rattle.shadow.proofs.Accepted.{call-accepted}
 use Rattle.trees.proofs.Trees.{Able}
 use Rattle.trees.proofs.Rules.{lawful-is}
-use Rattle.keeps.proofs.Right.{Mapped, Right}
+use Rattle.keeps.proofs.RightStates.{Mapped, RightState}
 
 -- an event's tests read neither words nor CR3s
 pub same-tests : (M : Machine) (s : State) (words cr3s : List ℕ) (e : Event) → eventRefusal (record { tables = M .tables; frames = M .frames; processors = M .processors; words = words; cr3s = cr3s }) e ≡ eventRefusal (asSetup M s) e
@@ -36,7 +36,7 @@ ranges M h =
     )
 
 module _ (M : Machine) (map : List ℕ) (s : State) (ok : Able M) (ranged : Ranged M) (fits : Mapped M map) (frames : framesFit M map ≡ true)
-    (r : Right M map s) (words : length (s .words) ≡ frameWords * M .frames) where
+    (r : RightState M map s) (words : length (s .words) ≡ frameWords * M .frames) where
   lengths : lengthsFit M map (s .shadow) (s .slots) ≡ true
   unfolding lengthsFit
   lengths =

@@ -10,7 +10,7 @@ use Rattle.paging.specs.declared.Guest.{Guest}
 use Rattle.paging.specs.declared.Walk.{Walk}
 use Rattle.paging.specs.declared.Request.{Request}
 use Rattle.paging.specs.Frame.{guest, host, hostOf}
-use Rattle.paging.specs.Layout.{Layout, index, pageOf, frameOf, rightsOf, isPresent, get, put, markD}
+use Rattle.paging.specs.Layout.{Layout, index, pageOf, frameOf, rightsOf, isPresent, get, put, withD}
 use Rattle.paging.specs.Request.{requestOf, enough}
 use Rattle.paging.specs.Walk.{meet, start}
 use Rattle.paging.proofs.Layouts.{Sound}
@@ -19,15 +19,15 @@ use Rattle.tables.specs.declared.Path.{Path}
 use Rattle.tables.specs.declared.Walked.{Walked}
 use Rattle.tables.specs.declared.Walked.the-variants.{Whole, Fault}
 use Rattle.tables.specs.State.{Machine, State, stateOf, slotCount, placeIn, shadows, rootOf, nextEntry, pathTo}
-use Rattle.tables.specs.Steps.{Trod, walkGuest, slotServes, servingSlot}
+use Rattle.tables.specs.Steps.{GuestWalk, walkGuest, slotServes, servingSlot}
 use Rattle.shadow.specs.declared.Answer.the-variants.{Address, Fault as Faulted, Again}
 use Rattle.shadow.specs.After.{Result, gives, valueAt, isWrite, dirtied, fill, afterAccess, afterMiss, afterWalk}
 use Rattle.trees.proofs.Counts.{first-passes}
 use Rattle.trees.proofs.Trees.{Able}
 use Rattle.trees.proofs.Settles.{Leads}
-use Rattle.keeps.proofs.Alikes.{Same, same-refl, same-sym, same-trans, same-mark}
-use Rattle.keeps.proofs.Treads.{treads}
-use Rattle.keeps.proofs.Right.{Mapped, Right, Reshaped, words-right, reshaped-right}
+use Rattle.keeps.proofs.Alikes.{Same, same-refl, same-sym, same-trans, same-with-bit}
+use Rattle.keeps.proofs.WalkReads.{walk-reads}
+use Rattle.keeps.proofs.RightStates.{Mapped, RightState, Reshaped, words-right, reshaped-right}
 use Rattle.keeps.proofs.Moves.{page-small}
 use Rattle.keeps.proofs.Filled.{Fills, fills, fill-reshapes}
 
@@ -36,8 +36,8 @@ pub dirtied-same : (Y : Layout) → Sound Y → (q : Request) (page : ℕ) (last
 unfolding dirtied
 dirtied-same Y ok q page last words = go (isWrite q)
   where
-    go : (b : Bool) → Same Y (cond b (put Y words (last .0) (index Y page 1) (markD (get Y words (last .0) (index Y page 1)))) words) words
-    go true = same-mark Y ok 6 (inr refl) words (last .0) (index Y page 1) (index-small Y page 1)
+    go : (b : Bool) → Same Y (cond b (put Y words (last .0) (index Y page 1) (withD (get Y words (last .0) (index Y page 1)))) words) words
+    go true = same-with-bit Y ok 6 (inr refl) words (last .0) (index Y page 1) (index-small Y page 1)
     go false = same-refl Y words
 
 -- the lowest slot that serves serves
@@ -61,16 +61,16 @@ module _ (M : Machine) (map : List ℕ) (p a b : ℕ) (s : State) where
   abbrev pub cr3 : Guest
   cr3 = shadows (s .shadow .records) (rootOf M p)
 
-  abbrev pub walked : Trod
+  abbrev pub walked : GuestWalk
   walked = walkGuest (M .tables) (M .frames) page (s .words) cr3
 
   -- with the words that the walk left
-  abbrev pub trodden : State
-  trodden = stateOf (walked .words) (s .shadow) (s .slots)
+  abbrev pub walkedOver : State
+  walkedOver = stateOf (walked .words) (s .shadow) (s .slots)
 
   -- with D, before the fill
-  abbrev pub marked : Guest → State
-  marked last = stateOf (dirtied (M .tables) q page last (walked .words)) (s .shadow) (s .slots)
+  abbrev pub written : Guest → State
+  written last = stateOf (dirtied (M .tables) q page last (walked .words)) (s .shadow) (s .slots)
 
   -- THE WAYS OUT OF AN ACCESS
   pub data Way (out : Result) : Type 0 where
@@ -78,20 +78,20 @@ module _ (M : Machine) (map : List ℕ) (p a b : ℕ) (s : State) where
         → out ≡ gives (Address (valueAt (hostOf map (guest (placeIn (s .slots) p k))) a)) s → Way out
     shadow : isPresent end ≡ true → enough q (meet (path .rights) (rightsOf (M .tables) end)) ≡ true
         → out ≡ gives (Address (valueAt (host (frameOf (M .tables) end)) a)) s → Way out
-    fault : (base : ℕ) → walked .ended ≡ Fault base → out ≡ gives (Faulted (base + q .adds)) trodden → Way out
-    lacks : (last : Guest) (w : Walk) → walked .ended ≡ Whole last w → enough q (w .rights) ≡ false → out ≡ gives (Faulted (1 + q .adds)) trodden → Way out
-    again : (last : Guest) (w : Walk) → walked .ended ≡ Whole last w → enough q (w .rights) ≡ true → out ≡ gives Again (fill M map p page (marked last)) → Way out
+    fault : (base : ℕ) → walked .ended ≡ Fault base → out ≡ gives (Faulted (base + q .adds)) walkedOver → Way out
+    lacks : (last : Guest) (w : Walk) → walked .ended ≡ Whole last w → enough q (w .rights) ≡ false → out ≡ gives (Faulted (1 + q .adds)) walkedOver → Way out
+    again : (last : Guest) (w : Walk) → walked .ended ≡ Whole last w → enough q (w .rights) ≡ true → out ≡ gives Again (fill M map p page (written last)) → Way out
 
   miss : Way (afterMiss M map p page q s)
   unfolding afterMiss
   miss = go (walked .ended) refl
     where
       by : (last : Guest) (w : Walk) → walked .ended ≡ Whole last w → (c : Bool) → enough q (w .rights) ≡ c
-          → Way (cond c (gives Again (fill M map p page (marked last))) (gives (Faulted (1 + q .adds)) trodden))
+          → Way (cond c (gives Again (fill M map p page (written last))) (gives (Faulted (1 + q .adds)) walkedOver))
       by last w e true c = again last w e c refl
       by last w e false c = lacks last w e c refl
 
-      go : (x : Walked) → walked .ended ≡ x → Way (afterWalk M map p page q trodden x)
+      go : (x : Walked) → walked .ended ≡ x → Way (afterWalk M map p page q walkedOver x)
       go (Fault base) e = fault base e refl
       go (Whole last w) e = by last w e (enough q (w .rights)) refl
 
@@ -124,45 +124,45 @@ module _ (M : Machine) (map : List ℕ) (p a b : ℕ) (s : State) where
   -- ---- the walk of the guest's tables
 
   module _ (sound : Sound (M .tables)) where
-    pub trod-same : Same (M .tables) (walked .words) (s .words)
-    trod-same = treads M sound page (s .words) (M .tables .levels) (s .words) cr3 (start (M .tables) cr3) (same-refl (M .tables) (s .words)) refl .same
+    pub walk-same : Same (M .tables) (walked .words) (s .words)
+    walk-same = walk-reads M sound page (s .words) (M .tables .levels) (s .words) cr3 (start (M .tables) cr3) (same-refl (M .tables) (s .words)) refl .same
 
-    pub marked-same : (last : Guest) → Same (M .tables) (marked last .words) (s .words)
-    marked-same last = same-trans (M .tables) (dirtied-same (M .tables) sound q page last (walked .words)) trod-same
+    pub written-same : (last : Guest) → Same (M .tables) (written last .words) (s .words)
+    written-same last = same-trans (M .tables) (dirtied-same (M .tables) sound q page last (walked .words)) walk-same
 
-    pub marked-leads : (last : Guest) (w : Walk) → walked .ended ≡ Whole last w → Leads M (marked last .words) page last (w .frame) (w .rights) (M .tables .levels) cr3 7
-    marked-leads last w e = treads M sound page (marked last .words) (M .tables .levels) (s .words) cr3 (start (M .tables) cr3) (same-sym (M .tables) (marked-same last)) refl .leads last w e .0
+    pub written-leads : (last : Guest) (w : Walk) → walked .ended ≡ Whole last w → Leads M (written last .words) page last (w .frame) (w .rights) (M .tables .levels) cr3 7
+    written-leads last w e = walk-reads M sound page (written last .words) (M .tables .levels) (s .words) cr3 (start (M .tables) cr3) (same-sym (M .tables) (written-same last)) refl .leads last w e .0
 
   -- ---- EVERY WAY KEEPS THE STATE RULES
 
-  module _ (ok : Able M) (spare : M .tables .levels ≤ M .share) (fits : Mapped M map) (hp : p < M .processors) (r : Right M map s) where
+  module _ (ok : Able M) (spare : M .tables .levels ≤ M .share) (fits : Mapped M map) (hp : p < M .processors) (r : RightState M map s) where
     module _ (last : Guest) (w : Walk) (e : walked .ended ≡ Whole last w) where
-      pub marked-right : Right M map (marked last)
-      marked-right = words-right M ok map fits (marked last .words) r
+      pub written-right : RightState M map (written last)
+      written-right = words-right M ok map fits (written last .words) r
 
-      pub filling : Fills M ok spare map fits p hp (marked last) marked-right page (page-small (M .tables) a) last (w .frame) (w .rights) (marked-leads (ok .sound) last w e) (fill M map p page (marked last))
-      filling = fills M ok spare map fits p hp (marked last) marked-right page (page-small (M .tables) a) last (w .frame) (w .rights) (marked-leads (ok .sound) last w e)
+      pub filling : Fills M ok spare map fits p hp (written last) written-right page (page-small (M .tables) a) last (w .frame) (w .rights) (written-leads (ok .sound) last w e) (fill M map p page (written last))
+      filling = fills M ok spare map fits p hp (written last) written-right page (page-small (M .tables) a) last (w .frame) (w .rights) (written-leads (ok .sound) last w e)
 
-      pub filling-reshapes : Reshaped M ok map fits p (marked last) (fill M map p page (marked last))
-      filling-reshapes = fill-reshapes M ok spare map fits p hp (marked last) marked-right page (page-small (M .tables) a) last (w .frame) (w .rights) (marked-leads (ok .sound) last w e)
+      pub filling-reshapes : Reshaped M ok map fits p (written last) (fill M map p page (written last))
+      filling-reshapes = fill-reshapes M ok spare map fits p hp (written last) written-right page (page-small (M .tables) a) last (w .frame) (w .rights) (written-leads (ok .sound) last w e)
 
-    way-right : {out : Result} → Way out → Right M map (out .state)
+    way-right : {out : Result} → Way out → RightState M map (out .state)
     way-right (slot k h v q) = rw q r
     way-right (shadow h v q) = rw q r
     way-right (fault base e q) = rw q (words-right M ok map fits (walked .words) r)
     way-right (lacks last w e v q) = rw q (words-right M ok map fits (walked .words) r)
-    way-right (again last w e v q) = rw q (reshaped-right M ok map fits (marked-right last w e) (filling-reshapes last w e))
+    way-right (again last w e v q) = rw q (reshaped-right M ok map fits (written-right last w e) (filling-reshapes last w e))
 
-    pub access-right : Right M map (afterAccess M map p a b s .state)
+    pub access-right : RightState M map (afterAccess M map p a b s .state)
     access-right = way-right ways
 
     -- the words keep their number
     way-words : {out : Result} → Way out → Same (M .tables) (out .state .words) (s .words)
     way-words (slot k h v q) = rw q (same-refl (M .tables) (s .words))
     way-words (shadow h v q) = rw q (same-refl (M .tables) (s .words))
-    way-words (fault base e q) = rw q (trod-same (ok .sound))
-    way-words (lacks last w e v q) = rw q (trod-same (ok .sound))
-    way-words (again last w e v q) = rw q (rw (filling last w e .words) (marked-same (ok .sound) last))
+    way-words (fault base e q) = rw q (walk-same (ok .sound))
+    way-words (lacks last w e v q) = rw q (walk-same (ok .sound))
+    way-words (again last w e v q) = rw q (rw (filling last w e .words) (written-same (ok .sound) last))
 
     pub access-words : Same (M .tables) (afterAccess M map p a b s .state .words) (s .words)
     access-words = way-words ways

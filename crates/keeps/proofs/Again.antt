@@ -10,10 +10,10 @@ use lib.ListN.{length, getD}
 use Rattle.paging.specs.declared.Guest.{Guest}
 use Rattle.paging.specs.declared.Walk.{Walk}
 use Rattle.paging.specs.declared.Request.{Request}
-use Rattle.paging.specs.Layout.{Layout, bit, get, put, index, pageOf, frameOf, rightsOf, isPresent, mark, markD}
+use Rattle.paging.specs.Layout.{Layout, bit, get, put, index, pageOf, frameOf, rightsOf, isPresent, withBit, withD}
 use Rattle.paging.specs.Request.{requestOf, enough}
 use Rattle.paging.specs.Walk.{meet}
-use Rattle.paging.proofs.Layouts.{Sound, length-put, get-mark, get-past}
+use Rattle.paging.proofs.Layouts.{Sound, length-put, get-with-bit, get-past}
 use Rattle.paging.proofs.Indices.{index-small}
 use Rattle.paging.proofs.Rights.{meet-small, rights-small, needs-small}
 use Rattle.tables.specs.declared.Path.{Path}
@@ -27,9 +27,9 @@ use Rattle.trees.proofs.Trees.{Able}
 use Rattle.trees.proofs.Builds.{Own}
 use Rattle.trees.proofs.Leaves.{Filled, leafOf-right}
 use Rattle.trees.proofs.Paths.{path-on, zero-absent}
-use Rattle.keeps.proofs.Right.{Mapped, Right}
+use Rattle.keeps.proofs.RightStates.{Mapped, RightState}
 use Rattle.keeps.proofs.Grants.{grants-less, grants-enough}
-use Rattle.keeps.proofs.Accesses.{walked, marked, filling, Way, slot, shadow, fault, lacks, again, ways}
+use Rattle.keeps.proofs.Accesses.{walked, written, filling, Way, slot, shadow, fault, lacks, again, ways}
 
 -- a result that does not answer y
 pub unlike : {A : Type 0} {out r : Result} {y : Answer} → out ≡ r → out .answer ≡ y → (r .answer ≡ y → ⊥) → A
@@ -43,9 +43,9 @@ path-small M pool page p (suc n) =
     let q : descend M pool page (suc n) (top M p) .rights ≡ meet _ _ = ap (λ (w : Path). w .rights) (path-on M pool page n (top M p)) in
     rw q (meet-small _ _)
 
-marked-bit : (e : ℕ) → bit (mark 6 e) 6 ≡ 1
-unfolding mark
-marked-bit e = omega arith
+bit-is-set : (e : ℕ) → bit (withBit 6 e) 6 ≡ 1
+unfolding withBit
+bit-is-set e = omega arith
 
 -- a present entry of words in which D was set has D
 pub dirty : (Y : Layout) → Sound Y → (q : Request) (page : ℕ) (last : Guest) (words : List ℕ) → isWrite q ≡ true
@@ -58,16 +58,16 @@ dirty Y ok q page last words w here = go (decLt (Y .place (last .0) i) (length w
     e : ℕ
     e = get Y words (last .0) i
 
-    set-d : dirtied Y q page last words ≡ put Y words (last .0) i (markD e)
-    set-d = unfold dirtied in ap (λ (c : Bool). cond c (put Y words (last .0) i (markD e)) words) w
+    set-d : dirtied Y q page last words ≡ put Y words (last .0) i (withD e)
+    set-d = unfold dirtied in ap (λ (c : Bool). cond c (put Y words (last .0) i (withD e)) words) w
 
     go : Dec (Y .place (last .0) i < length words) → bit (guestEntry Y (dirtied Y q page last words) page 1 last) 6 ≡ 1
     go (yes h) =
         ap (λ (ws : List ℕ). bit (get Y ws (last .0) i) 6) set-d
-        ∙ ap (λ (x : ℕ). bit x 6) (get-mark Y ok words 6 (last .0) i (inr refl) (index-small Y page 1) h) ∙ marked-bit e
+        ∙ ap (λ (x : ℕ). bit x 6) (get-with-bit Y ok words 6 (last .0) i (inr refl) (index-small Y page 1) h) ∙ bit-is-set e
     go (no h) =
         absurd (zero-absent _ (get-past Y ok (dirtied Y q page last words) (last .0) i
-        (omega (arith, ap length set-d, length-put Y ok words (last .0) i (markD e)))) here)
+        (omega (arith, ap length set-d, length-put Y ok words (last .0) i (withD e)))) here)
 
 -- page's path, from p's root, serves a request
 pub record Serves (M : Machine) (s : State) (p page : ℕ) (q : Request) : Type 0 where
@@ -76,7 +76,7 @@ pub record Serves (M : Machine) (s : State) (p page : ℕ) (q : Request) : Type 
       enough q (meet (pathTo M (s .shadow .pool) p page 1 .rights)
       (rightsOf (M .tables) (nextEntry M (s .shadow .pool) page (pathTo M (s .shadow .pool) p page 1)))) ≡ true
 
-module _ (M : Machine) (map : List ℕ) (p a b : ℕ) (s : State) (ok : Able M) (spare : M .tables .levels ≤ M .share) (fits : Mapped M map) (hp : p < M .processors) (r : Right M map s)
+module _ (M : Machine) (map : List ℕ) (p a b : ℕ) (s : State) (ok : Able M) (spare : M .tables .levels ≤ M .share) (fits : Mapped M map) (hp : p < M .processors) (r : RightState M map s)
     (last : Guest) (w : Walk) (e : walked M map p a b s .ended ≡ Whole last w) where
   abbrev page : ℕ
   page = pageOf (M .tables) a
@@ -85,7 +85,7 @@ module _ (M : Machine) (map : List ℕ) (p a b : ℕ) (s : State) (ok : Able M) 
   q = requestOf (M .tables) b
 
   abbrev s′ : State
-  s′ = fill M map p page (marked M map p a b s last)
+  s′ = fill M map p page (written M map p a b s last)
 
   abbrev path′ : Path
   path′ = pathTo M (s′ .shadow .pool) p page 1
@@ -93,11 +93,11 @@ module _ (M : Machine) (map : List ℕ) (p a b : ℕ) (s : State) (ok : Able M) 
   abbrev end′ : ℕ
   end′ = nextEntry M (s′ .shadow .pool) page path′
 
-  own : Own M ok map (fits .outside) (marked M map p a b s last .words) p hp page last (w .frame) (w .rights) (s′ .shadow)
+  own : Own M ok map (fits .outside) (written M map p a b s last .words) p hp page last (w .frame) (w .rights) (s′ .shadow)
   own = filling M map p a b s ok spare fits hp r last w e .built .own
 
   abbrev entry : ℕ
-  entry = guestEntry (M .tables) (marked M map p a b s last .words) page 1 last
+  entry = guestEntry (M .tables) (written M map p a b s last .words) page 1 last
 
   made : Filled M map entry (leafOf (M .tables) map entry)
   made = leafOf-right M ok map (fits .within) entry (rw (fits .guests) (own .inside))
@@ -137,7 +137,7 @@ module _ (M : Machine) (map : List ℕ) (p a b : ℕ) (s : State) (ok : Able M) 
   end-inside = rw (← (own .frame)) (own .inside)
 
 -- AFTER "AGAIN" THE PAGE'S PATH SERVES
-module _ (M : Machine) (map : List ℕ) (p a b : ℕ) (s : State) (ok : Able M) (spare : M .tables .levels ≤ M .share) (fits : Mapped M map) (hp : p < M .processors) (r : Right M map s) (hb : b < 6) where
+module _ (M : Machine) (map : List ℕ) (p a b : ℕ) (s : State) (ok : Able M) (spare : M .tables .levels ≤ M .share) (fits : Mapped M map) (hp : p < M .processors) (r : RightState M map s) (hb : b < 6) where
   abbrev Left : Result → Type 0
   Left out = out .answer ≡ Again → Serves M (out .state) p (pageOf (M .tables) a) (requestOf (M .tables) b)
 

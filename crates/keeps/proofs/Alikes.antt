@@ -1,4 +1,4 @@
--- Words whose entries agree but for A and D: stores keep that, marking A or D keeps it, and walks do the same on them.
+-- Words whose entries agree but for A and D: stores keep that, setting A or D keeps it, and walks do the same on them.
 use mathlib.Core.Path.{_≡_, refl, sym, ap, _∙_}
 use mathlib.Core.List.{List}
 use Prim.Native.Nat.{ℕ, _^_, _<_}
@@ -7,9 +7,9 @@ use native.Mathlib.Omega.{arith}
 use lib.ListN.{length, getD, set, length-set}
 use lib.Seq.{getD-set-same, getD-set-other, set-out}
 use Rattle.paging.specs.declared.Walk.{Walk}
-use Rattle.paging.specs.Layout.{Layout, get, put, mark}
+use Rattle.paging.specs.Layout.{Layout, get, put, withBit}
 use Rattle.paging.specs.Walk.{step}
-use Rattle.paging.proofs.Layouts.{Alike, Flag, Sound, alike-refl, alike-sym, alike-trans, length-put, mark-keeps, step-alike}
+use Rattle.paging.proofs.Layouts.{Alike, Flag, Sound, alike-refl, alike-sym, alike-trans, length-put, with-bit-keeps, step-alike}
 
 -- two lists of words, entry by entry
 pub record Same (Y : Layout) (xs ys : List ℕ) : Type 0 where
@@ -41,9 +41,9 @@ module _ (Y : Layout) where
       at f i h (yes e) (no ge) = rw (set-out xs a b (omega arith), set-out ys a b (omega (arith, s .size))) (s .each f i h)
 
 module _ (Y : Layout) (ok : Sound Y) where
-  -- marking A or D in an entry
-  pub same-mark : (k : ℕ) → Flag k → (xs : List ℕ) (f i : ℕ) → i < 2 ^ Y .indexBits → Same Y (put Y xs f i (mark k (get Y xs f i))) xs
-  same-mark k flag xs f i h = record { size = length-put Y ok xs f i (mark k (get Y xs f i)); each = λ g j hj. mark-keeps Y ok xs k f i flag h g j hj }
+  -- A or D set in an entry
+  pub same-with-bit : (k : ℕ) → Flag k → (xs : List ℕ) (f i : ℕ) → i < 2 ^ Y .indexBits → Same Y (put Y xs f i (withBit k (get Y xs f i))) xs
+  same-with-bit k flag xs f i h = record { size = length-put Y ok xs f i (withBit k (get Y xs f i)); each = λ g j hj. with-bit-keeps Y ok xs k f i flag h g j hj }
 
   -- A WALK DOES THE SAME ON BOTH
   pub same-step : {xs ys : List ℕ} → Same Y xs ys → (G : ℕ) (w : Walk) (f i : ℕ) → i < 2 ^ Y .indexBits → step Y G w (get Y xs f i) ≡ step Y G w (get Y ys f i)

@@ -14,13 +14,13 @@ use Rattle.paging.proofs.Numbers.{all-at}
 use Rattle.paging.proofs.Tests.{both}
 use Rattle.rules.specs.declared.Event.{Event}
 use Rattle.tables.specs.State.{Machine, State, tableCount}
-use Rattle.shadow.specs.After.{Result, poolFits, inPool, framesFit, callRefusal, after, decode, moved, afterStore, afterInvlpg, afterCr3, afterAccess, afterBegin, afterExtend, afterLoss}
+use Rattle.shadow.specs.After.{Result, poolFits, inPool, framesFit, callRefusal, after, decode, moved, afterStore, afterInvlpg, afterCr3, afterAccess, afterBegin, afterExtend, afterDrop}
 use Rattle.shadow.proofs.Sizing.{hosts-below}
 use Rattle.shadow.proofs.Accepted.{accepted-ranged, accepted-room, accepted-exact, accepted-frames, accepted-lawful, accepted-cr3, accepted-numbers}
 use Rattle.shadow.proofs.Moves.{seventh, moved-store, moved-invlpg, moved-cr3, moved-access, moved-begin, moved-extend, moved-loss}
 use Rattle.trees.proofs.Trees.{Laid, Able, able}
 use Rattle.trees.proofs.Rules.{lawful-is}
-use Rattle.keeps.proofs.Right.{Mapped, Right}
+use Rattle.keeps.proofs.RightStates.{Mapped, RightState}
 
 -- a map that fits
 pub mapped : (M : Machine) (map : List ℕ) → length map ≡ M .frames → framesFit M map ≡ true → Mapped M map
@@ -51,7 +51,7 @@ module _ (M : Machine) (map : List ℕ) (s : State) (e : Event) where
     access : e .kind ≡ 4 → e .b < 6 → out ≡ afterAccess M map (e .proc) (e .a) (e .b) s → Kind out
     begin : e .kind ≡ 5 → e .b < 8 → out ≡ afterBegin M (e .proc) (e .a) (e .b) s → Kind out
     extend : e .kind ≡ 6 → e .a < 8 → out ≡ afterExtend M map (e .proc) (e .a) s → Kind out
-    loss : e .kind ≡ 7 → e .a < 8 → out ≡ afterLoss (e .proc) (e .a) s → Kind out
+    drop : e .kind ≡ 7 → e .a < 8 → out ≡ afterDrop (e .proc) (e .a) s → Kind out
 
   module _ (ok : callRefusal M map s e ≡ 0) where
     pub accepted-mapped : Mapped M map
@@ -61,7 +61,7 @@ module _ (M : Machine) (map : List ℕ) (s : State) (e : Event) where
     accepted-able laid =
         able M laid (omega (arith, laid .upper, accepted-ranged M map s e ok .share)) (accepted-room M map s e ok)
 
-    pub accepted-right : Laid (M .tables) → Right M map s
+    pub accepted-right : Laid (M .tables) → RightState M map s
     accepted-right laid =
         let x = accepted-exact M map s e ok in
         record {
@@ -86,4 +86,4 @@ module _ (M : Machine) (map : List ℕ) (s : State) (e : Event) where
         go (no a) (no b) (no c) (no d) (no f) (yes q) = extend q (accepted-numbers M map s e ok .extends q) (taken ∙ sym (moved-extend M map s e q))
         go (no a) (no b) (no c) (no d) (no f) (no g) =
             let q = seventh (e .kind) (accepted-numbers M map s e ok .kind) a b c d f g in
-            loss q (accepted-numbers M map s e ok .loses q) (taken ∙ sym (moved-loss M map s e q))
+            drop q (accepted-numbers M map s e ok .loses q) (taken ∙ sym (moved-loss M map s e q))

@@ -18,10 +18,10 @@ use Rattle.trees.proofs.Trees.{Able}
 use Rattle.trees.proofs.Settles.{Leads}
 use Rattle.trees.proofs.Builds.{Built, filled, refilled}
 use Rattle.trees.proofs.Slots.{SameSlot, Empty, Room, same-on, same-empty, emptySlots-length, emptySlots-other, emptySlots-here, flush-length, flush-others, flush-here}
-use Rattle.keeps.proofs.Right.{Mapped, Right, room, Reshaped}
+use Rattle.keeps.proofs.RightStates.{Mapped, RightState, room, Reshaped}
 use Rattle.keeps.proofs.Takes.{flush-leaves}
 
-module _ (M : Machine) (ok : Able M) (spare : M .tables .levels ≤ M .share) (map : List ℕ) (fits : Mapped M map) (p : ℕ) (hp : p < M .processors) (s : State) (r : Right M map s)
+module _ (M : Machine) (ok : Able M) (spare : M .tables .levels ≤ M .share) (map : List ℕ) (fits : Mapped M map) (p : ℕ) (hp : p < M .processors) (s : State) (r : RightState M map s)
     (page : ℕ) (paged : page < 2 ^ (M .tables .indexBits * M .tables .levels)) (last f : Guest) (x : ℕ) (leads : Leads M (s .words) page last f x (M .tables .levels) (shadows (s .shadow .records) (rootOf M p)) 7) where
   abbrev ready : Able M
   ready = ok

@@ -1,6 +1,6 @@
 pub mod Alikes
-pub mod Treads
-pub mod Right
+pub mod WalkReads
+pub mod RightStates
 pub mod Moves
 pub mod Takes
 pub mod Filled

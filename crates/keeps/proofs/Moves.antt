@@ -23,7 +23,7 @@ use Rattle.tables.proofs.Counts.{by-cases}
 use Rattle.shadow.specs.declared.Answer.the-variants.{Done, NoStep}
 use Rattle.shadow.specs.declared.Place.{Place}
 use Rattle.shadow.specs.declared.Place.the-variants.{At, Off}
-use Rattle.shadow.specs.After.{Result, afterBegin, afterExtend, afterLoss, gives, byPlace, placeOf, placeBelow}
+use Rattle.shadow.specs.After.{Result, afterBegin, afterExtend, afterDrop, gives, byPlace, placeOf, placeBelow}
 use Rattle.shadow.proofs.Extends.{origin-small}
 use Rattle.lawful.specs.Rules.{slotRight}
 use Rattle.trees.proofs.Trees.{Able, Outside}
@@ -31,13 +31,13 @@ use Rattle.trees.proofs.Roots.{root-table}
 use Rattle.trees.proofs.Paths.{path-on, path-level}
 use Rattle.trees.proofs.Slots.{Room, with-length, with-other, with-mark, with-page, with-place, with-rights, emptied-here}
 use Rattle.trees.proofs.SlotRules.{right-partial, right-page, empty-right, complete-right, partial-right}
-use Rattle.keeps.proofs.Right.{Mapped, Right, room, one-slot}
+use Rattle.keeps.proofs.RightStates.{Mapped, RightState, room, one-slot}
 
 pub page-small : (Y : Layout) (a : ℕ) → pageOf Y a < 2 ^ (Y .indexBits * Y .levels)
 unfolding pageOf
 page-small Y a = mod-lt (a / 2 ^ 12) (pow-pos (Y .indexBits * Y .levels))
 
-module _ (M : Machine) (ok : Able M) (map : List ℕ) (fits : Mapped M map) (p : ℕ) (hp : p < M .processors) (s : State) (r : Right M map s) where
+module _ (M : Machine) (ok : Able M) (map : List ℕ) (fits : Mapped M map) (p : ℕ) (hp : p < M .processors) (s : State) (r : RightState M map s) where
   abbrev out : Outside M map
   out = fits .outside
 
@@ -46,9 +46,9 @@ module _ (M : Machine) (ok : Able M) (map : List ℕ) (fits : Mapped M map) (p :
 
   -- ---- "Drop: emptied"
 
-  pub loss-right : (k : ℕ) → k < slotCount → Right M map (afterLoss p k s .state)
-  unfolding afterLoss
-  loss-right k hk =
+  pub drop-right : (k : ℕ) → k < slotCount → RightState M map (afterDrop p k s .state)
+  unfolding afterDrop
+  drop-right k hk =
       one-slot M ok map fits {p = p} {k = k} r (with-length p k 0 0 0 0 (s .slots))
       (λ q j hj ne. with-other p k 0 0 0 0 (s .slots) q j hk hj ne)
       (empty-right M (s .shadow .pool) (emptied p k (s .slots)) p k (emptied-here p k (s .slots) hk here))
@@ -59,7 +59,7 @@ module _ (M : Machine) (ok : Able M) (map : List ℕ) (fits : Mapped M map) (p :
     abbrev set-slots : List ℕ
     set-slots = withSlot p k mark page place rights (s .slots)
 
-    set-right : slotRight M (s .shadow .pool) set-slots p k ≡ true → Right M map (stateOf (s .words) (s .shadow) set-slots)
+    set-right : slotRight M (s .shadow .pool) set-slots p k ≡ true → RightState M map (stateOf (s .words) (s .shadow) set-slots)
     set-right right =
         one-slot M ok map fits {p = p} {k = k} r (with-length p k mark page place rights (s .slots))
         (λ q j hj ne. with-other p k mark page place rights (s .slots) q j hk hj ne) right
@@ -78,7 +78,7 @@ module _ (M : Machine) (ok : Able M) (map : List ℕ) (fits : Mapped M map) (p :
 
     partial : 1 < mark → mark ≤ M .tables .levels + 1 → pathTo M (s .shadow .pool) p page (mark - 1) .table < tableCount M
         → place ≡ pathTo M (s .shadow .pool) p page (mark - 1) .table → rights ≡ pathTo M (s .shadow .pool) p page (mark - 1) .rights
-        → Right M map (stateOf (s .words) (s .shadow) set-slots)
+        → RightState M map (stateOf (s .words) (s .shadow) set-slots)
     partial lo hi on ep er =
         let q : pathTo M (s .shadow .pool) p page (mark - 1) ≡ pathTo M (s .shadow .pool) p (pageIn set-slots p k) (markOf set-slots p k - 1) =
         ap₂ (λ (v m : ℕ). pathTo M (s .shadow .pool) p v (m - 1)) (sym is-page) (sym is-mark) in
@@ -90,12 +90,12 @@ module _ (M : Machine) (ok : Able M) (map : List ℕ) (fits : Mapped M map) (p :
           rights = is-rights ∙ er ∙ ap (λ (w : Path). w .rights) q;
         }))
 
-    complete : mark ≡ 1 → place < M .frames → Right M map (stateOf (s .words) (s .shadow) set-slots)
+    complete : mark ≡ 1 → place < M .frames → RightState M map (stateOf (s .words) (s .shadow) set-slots)
     complete one inside = set-right (complete-right M (s .shadow .pool) set-slots p k (is-mark ∙ one) (rw is-page paged) (rw is-place inside))
 
   -- ---- "Begin: the slot holds a partial walk on the root, rights 7."
 
-  pub begin-right : (a k : ℕ) → k < slotCount → Right M map (afterBegin M p a k s .state)
+  pub begin-right : (a k : ℕ) → k < slotCount → RightState M map (afterBegin M p a k s .state)
   unfolding afterBegin descend
   begin-right a k hk =
       let stays : M .tables .levels - (M .tables .levels + 1 - 1) ≡ 0 = omega arith in
@@ -187,7 +187,7 @@ module _ (M : Machine) (ok : Able M) (map : List ℕ) (fits : Mapped M map) (p :
         first true qa false qb = inl refl
         first true qa true qb = second (ltb-true 1 mark qa) qb (placeBelow M map (mark - 1) e) refl
 
-    pub extend-right : Right M map (afterExtend M map p k s .state)
+    pub extend-right : RightState M map (afterExtend M map p k s .state)
     extend-right =
         by-cases extends
         (λ q. rw q r)
@@ -196,7 +196,7 @@ module _ (M : Machine) (ok : Able M) (map : List ℕ) (fits : Mapped M map) (p :
         (moved m (ℕ-discrete mark 2)))
       where
         moved : (m : Moves (afterExtend M map p k s .state)) → Dec (mark ≡ 2)
-            → Right M map (stateOf (s .words) (s .shadow) (withSlot p k (mark - 1) page (m .place) (meet (path .rights) (rightsOf (M .tables) next)) (s .slots)))
+            → RightState M map (stateOf (s .words) (s .shadow) (withSlot p k (mark - 1) page (m .place) (meet (path .rights) (rightsOf (M .tables) next)) (s .slots)))
         moved m (yes two) =
             let q : mark - 1 ≡ 1 = omega arith in
             let o = place-complete (mark - 1) (m .place) q (m .at) in

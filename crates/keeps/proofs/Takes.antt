@@ -23,7 +23,7 @@ use Rattle.trees.proofs.Shares.{share-trees, share-less, share-others, share-ow
 use Rattle.trees.proofs.Paths.{lost-entry, stands, zero-absent}
 use Rattle.trees.proofs.Unique.{leaf-here}
 use Rattle.trees.proofs.Slots.{SameSlot, Empty, Room, emptySlots-length, emptySlots-other, emptySlots-here, flush-length, flush-others, flush-here}
-use Rattle.keeps.proofs.Right.{Mapped, Right, room, Reshaped}
+use Rattle.keeps.proofs.RightStates.{Mapped, RightState, room, Reshaped}
 
 -- what a flush leaves of a slot
 pub flush-leaves : (p v : ℕ) (slots : List ℕ) (k : ℕ) → k < slotCount → Room slots p
@@ -31,7 +31,7 @@ pub flush-leaves : (p v : ℕ) (slots : List ℕ) (k : ℕ) → k < slotCount �
 flush-leaves p v slots k hk here =
     by-cases (flush-here p v slots k hk here) (λ x. inr (x .0, by-cases (x .1) (λ e. omega arith) (λ e. omega (arith, e .0)))) (λ x. inl x)
 
-module _ (M : Machine) (ok : Able M) (map : List ℕ) (fits : Mapped M map) (p : ℕ) (hp : p < M .processors) (s : State) (r : Right M map s) where
+module _ (M : Machine) (ok : Able M) (map : List ℕ) (fits : Mapped M map) (p : ℕ) (hp : p < M .processors) (s : State) (r : RightState M map s) where
   abbrev out : Outside M map
   out = fits .outside
 

@@ -14,17 +14,17 @@ use Rattle.tables.proofs.Counts.{by-cases}
 use Rattle.lawful.specs.Rules.{lawful}
 use Rattle.rules.specs.History.{eventRefusal}
 use Rattle.shadow.specs.declared.Answer.the-variants.{Done, Address, Again, Refused}
-use Rattle.shadow.specs.After.{Result, asSetup, callRefusal, after, afterInvlpg, afterCr3, afterBegin, afterLoss}
+use Rattle.shadow.specs.After.{Result, asSetup, callRefusal, after, afterInvlpg, afterCr3, afterBegin, afterDrop}
 use Rattle.shadow.proofs.Accepted.{accepted-ranged, accepted-own, accepted-words, accepted-frames, accepted-event}
 use Rattle.trees.proofs.Trees.{Laid, Able}
 use Rattle.trees.proofs.Rules.{lawful-is}
-use Rattle.keeps.proofs.Right.{Mapped, Right, words-right, reshaped-right}
-use Rattle.keeps.proofs.Moves.{loss-right, begin-right, extend-right, extend-words, extend-answer}
+use Rattle.keeps.proofs.RightStates.{Mapped, RightState, words-right, reshaped-right}
+use Rattle.keeps.proofs.Moves.{drop-right, begin-right, extend-right, extend-words, extend-answer}
 use Rattle.keeps.proofs.Takes.{invlpg-reshapes, cr3-reshapes}
 use Rattle.keeps.proofs.Accesses.{Way, slot, shadow, fault, lacks, again, ways, served, access-right, access-words}
 use Rattle.keeps.proofs.Again.{unlike, Serves, access-serves}
 use Rattle.keeps.proofs.Accepts.{same-tests, accepts}
-use Rattle.keeps.proofs.Events.{Kind, store, invlpg, cr3, access, begin, extend, loss, accepted-mapped, accepted-able, accepted-right, kinds}
+use Rattle.keeps.proofs.Events.{Kind, store, invlpg, cr3, access, begin, extend, drop, accepted-mapped, accepted-able, accepted-right, kinds}
 
 done-again : Done ≡ Again → ⊥
 done-again e = let n : _≡_ {A = ℕ} 0 1 = cc in omega arith
@@ -39,21 +39,21 @@ module _ (M : Machine) (map : List ℕ) (s : State) (e : Event) (laid : Laid (M 
   abbrev hp : e .proc < M .processors
   hp = accepted-own M map s e ok
 
-  abbrev r : Right M map s
+  abbrev r : RightState M map s
   r = accepted-right M map s e ok laid
 
   spare : M .tables .levels ≤ M .share
   spare = accepted-ranged M map s e ok .share .0
 
   -- by kind
-  keeps : {out : Result} → Kind M map s e out → Right M map (out .state)
+  keeps : {out : Result} → Kind M map s e out → RightState M map (out .state)
   keeps (store q h o) = rw o (words-right M able map fits (set (s .words) (e .a) (e .b)) r)
   keeps (invlpg q o) = rw o (reshaped-right M able map fits r (invlpg-reshapes M able map fits (e .proc) hp s r (e .a)))
   keeps (cr3 q h o) = rw o (reshaped-right M able map fits r (cr3-reshapes M able map fits (e .proc) hp s r (e .a) h))
   keeps (access q h o) = rw o (access-right M map (e .proc) (e .a) (e .b) s able spare fits hp r)
   keeps (begin q h o) = rw o (begin-right M able map fits (e .proc) hp s r (e .a) (e .b) h)
   keeps (extend q h o) = rw o (extend-right M able map fits (e .proc) hp s r (e .a) h)
-  keeps (loss q h o) = rw o (loss-right M able map fits (e .proc) hp s r (e .a) h)
+  keeps (drop q h o) = rw o (drop-right M able map fits (e .proc) hp s r (e .a) h)
 
   -- the guest's words keep their number
   sizes : {out : Result} → Kind M map s e out → length (out .state .words) ≡ length (s .words)
@@ -63,12 +63,12 @@ module _ (M : Machine) (map : List ℕ) (s : State) (e : Event) (laid : Laid (M 
   sizes (access q h o) = rw o (access-words M map (e .proc) (e .a) (e .b) s able spare fits hp r .size)
   sizes (begin q h o) = rw o (unfold afterBegin in refl)
   sizes (extend q h o) = rw o (extend-words M able map fits (e .proc) hp s r (e .a) h)
-  sizes (loss q h o) = rw o (unfold afterLoss in refl)
+  sizes (drop q h o) = rw o (unfold afterDrop in refl)
 
   abbrev s′ : State
   s′ = after M map s e .state
 
-  pub right-after : Right M map s′
+  pub right-after : RightState M map s′
   right-after = keeps (kinds M map s e ok)
 
   -- EVERY ACCEPTED EVENT KEEPS THE STATE RULES
@@ -96,7 +96,7 @@ module _ (M : Machine) (map : List ℕ) (s : State) (e : Event) (laid : Laid (M 
       by-cases (extend-answer M map (e .proc) (e .a) s)
       (λ d. unlike o g (λ e. done-again (sym d ∙ e)))
       (λ d. unlike o g (λ e. let x = sym d ∙ e in let n : _≡_ {A = ℕ} 0 1 = cc in omega arith))
-  serves (loss q h o) g = unlike o g (λ e. done-again (unfold afterLoss in e))
+  serves (drop q h o) g = unlike o g (λ e. done-again (unfold afterDrop in e))
 
   pub again-serves : after M map s e .answer ≡ Again → (e .kind ≡ 4) × Serves M s′ (e .proc) (pageOf (M .tables) (e .a)) (requestOf (M .tables) (e .b))
   again-serves g = serves (kinds M map s e ok) g
@@ -113,7 +113,7 @@ served-address M map s e ok k sv = go (kinds M map s e ok)
     go (cr3 q h o) = absurd (omega arith)
     go (begin q h o) = absurd (omega arith)
     go (extend q h o) = absurd (omega arith)
-    go (loss q h o) = absurd (omega arith)
+    go (drop q h o) = absurd (omega arith)
 
 -- THE PUT RIGHT AFTER AN "AGAIN" ANSWERS AN ADDRESS
 pub again-address : (M : Machine) (map : List ℕ) (s : State) (e : Event) → Laid (M .tables) → callRefusal M map s e ≡ 0 → after M map s e .answer ≡ Again
@@ -146,4 +146,4 @@ never-refused M map s e ok n refused = go (kinds M map s e ok) refused
         by-cases (extend-answer M map (e .proc) (e .a) s)
         (λ d. unlike o g (λ e. done (sym d ∙ e)))
         (λ d. unlike o g (λ e. let x = sym d ∙ e in let m : _≡_ {A = ℕ} 0 1 = cc in omega arith))
-    go (loss x h o) g = unlike o g (λ e. done (unfold afterLoss in e))
+    go (drop x h o) g = unlike o g (λ e. done (unfold afterDrop in e))

@@ -18,11 +18,11 @@ use Rattle.rules.specs.Refusal.{Test, test, refusal}
 use Rattle.rules.specs.History.{Setup, Fit, eventAt, eventRefusal, eventTests}
 use Rattle.rules.specs.Outcome.{questionRefusal}
 use Rattle.rules.proofs.Ranges.{Clear, clear, event-clear, cr3-within}
-use Rattle.marks.specs.Work.{workBytes, Room}
-use Rattle.listing.specs.Call.{Asked, Lent, setupOf, sizesFit, lengthsFit, orElse, firstRefusal, listRefusal}
+use Rattle.held.specs.Work.{workBytes, Room}
+use Rattle.listing.specs.Call.{Asked, Lent, setupAsked, sizesFit, lengthsFit, orElse, firstRefusal, listRefusal}
 use Rattle.rules.specs.Numbers.{eventOf, eventsOf}
 use Rattle.listing.specs.Replay.{Reach}
-use Rattle.listing.specs.Answer.{Ready}
+use Rattle.listing.specs.Answer.{Answerable}
 use Rattle.listing.proofs.Refuses.{or-none, first-each}
 
 -- an event of the list is the one that its four numbers say
@@ -35,14 +35,14 @@ unfolding eventsOf
 events-length ns = tab-length (length ns / 4) (eventOf ns)
 
 -- the sizes, one by one
-pub record Sized (map cr3s events words work outcomes : ℕ) : Type 0 where
+pub record SizesFit (map cr3s events words work outcomes : ℕ) : Type 0 where
   pub some : 1 ≤ map
   pub few : map ≤ 256
   pub whole : words ≡ frameWords * map
   pub bytes : workBytes map ≤ work
   pub pairs : 2 * (map + 3) ≤ outcomes
 
-sized : (m p e w k o : ℕ) → sizesFit m p e w k o ≡ true → Sized m p e w k o
+sized : (m p e w k o : ℕ) → sizesFit m p e w k o ≡ true → SizesFit m p e w k o
 unfolding sizesFit
 sized m p e w k o h =
     let m₁ = both (isBetween 1 256 m) _ h in
@@ -62,22 +62,22 @@ sized m p e w k o h =
 
 module _ (q : Asked) (b : Lent) where
   pub record Accepted : Type 0 where
-    pub sizes : Sized (length (q .map)) (length (q .cr3s)) (length (q .events)) (length (b .words)) (length (b .work)) (length (b .outcomes))
+    pub sizes : SizesFit (length (q .map)) (length (q .cr3s)) (length (q .events)) (length (b .words)) (length (b .work)) (length (b .outcomes))
     pub starts : (p : ℕ) → p < length (q .cr3s) → getD (q .cr3s) p 0 < length (q .map)
-    pub events : (k : ℕ) → k < length (q .events) / 4 → eventRefusal (setupOf q b) (eventOf (q .events) k) ≡ 0
+    pub events : (k : ℕ) → k < length (q .events) / 4 → eventRefusal (setupAsked q b) (eventOf (q .events) k) ≡ 0
     pub proc : q .question .proc < length (q .cr3s)
     pub request : q .question .request < 6
 
   accepted-by : Clear (test 1 (not (lengthsFit q b)) ∷ test 2 (not (mapFits (2 ^ 40) (q .map))) ∷ test 7 (not (cr3sFit (length (q .map)) (q .cr3s))) ∷ [])
-      → firstRefusal (length (q .events) / 4) (λ k. eventRefusal (setupOf q b) (eventOf (q .events) k)) ≡ 0
-      → questionRefusal (setupOf q b) (q .question) ≡ 0 → Accepted
+      → firstRefusal (length (q .events) / 4) (λ k. eventRefusal (setupAsked q b) (eventOf (q .events) k)) ≡ 0
+      → questionRefusal (setupAsked q b) (q .question) ≡ 0 → Accepted
   unfolding cr3sFit
   accepted-by c es qs =
-      let asks = event-clear (setupOf q b) (record { proc = q .question .proc; kind = 4; a = q .question .addr; b = q .question .request }) qs in
+      let asks = event-clear (setupAsked q b) (record { proc = q .question .proc; kind = 4; a = q .question .addr; b = q .question .request }) qs in
       record {
         sizes = sized _ _ _ _ _ _ (not-false _ (c .0));
         starts = λ p h. ltb-true _ _ (all-at (λ p. ltb (getD (q .cr3s) p 0) (length (q .map))) (length (q .cr3s)) (not-false _ (c .1 .1 .0)) p h);
-        events = first-each (λ k. eventRefusal (setupOf q b) (eventOf (q .events) k)) (length (q .events) / 4) es;
+        events = first-each (λ k. eventRefusal (setupAsked q b) (eventOf (q .events) k)) (length (q .events) / 4) es;
         proc = leb-false (length (q .cr3s)) (q .question .proc) (asks .0);
         request = omega (arith, ltb-false 5 (q .question .request) (asks .1 .1 .0));
       }
@@ -93,21 +93,21 @@ module _ (q : Asked) (b : Lent) where
     pub room : Room (length (q .map)) (b .words) (b .work)
     room = record { few = ok .sizes .few; whole = ok .sizes .whole; bytes = ok .sizes .bytes }
 
-    pub fit : Fit (setupOf q b) (eventsOf (q .events))
+    pub fit : Fit (setupAsked q b) (eventsOf (q .events))
     fit = record {
       starts = ok .starts;
-      events = λ k h. let lt : k < length (q .events) / 4 = omega (arith, events-length (q .events)) in ap (eventRefusal (setupOf q b)) (event-at (q .events) k lt) ∙ ok .events k lt;
+      events = λ k h. let lt : k < length (q .events) / 4 = omega (arith, events-length (q .events)) in ap (eventRefusal (setupAsked q b)) (event-at (q .events) k lt) ∙ ok .events k lt;
     }
 
     pub reach : (k : ℕ) → k < length (q .events) / 4 → Reach (length (q .map)) (eventOf (q .events) k)
-    reach k h = record { word = word; cr3 = λ e. cr3-within (setupOf q b) (eventOf (q .events) k) (ok .events k h) (rw e refl) }
+    reach k h = record { word = word; cr3 = λ e. cr3-within (setupAsked q b) (eventOf (q .events) k) (ok .events k h) (rw e refl) }
       where
         word : eventOf (q .events) k .kind ≡ 1 → eventOf (q .events) k .a < frameWords * length (q .map)
         word e =
-            let tests = event-clear (setupOf q b) (eventOf (q .events) k) (ok .events k h) in
+            let tests = event-clear (setupAsked q b) (eventOf (q .events) k) (ok .events k h) in
             leb-false (frameWords * length (q .map)) (eventOf (q .events) k .a) (rw e at (tests .1 .1 .1 .1 .0))
 
-    pub ready : Ready (length (q .map)) (b .words) (b .work) (b .outcomes) (q .events) (q .question) (getD (q .cr3s) (q .question .proc) 0)
+    pub ready : Answerable (length (q .map)) (b .words) (b .work) (b .outcomes) (q .events) (q .question) (getD (q .cr3s) (q .question .proc) 0)
     ready = record {
       room = room;
       some = ok .sizes .some;

@@ -12,8 +12,8 @@ use Rattle.paging.specs.Layout.{tables64, pageOf}
 use Rattle.paging.proofs.Tests.{and-r}
 use Rattle.rules.specs.declared.Event.{Event}
 use Rattle.rules.specs.History.{isStore, isInvlpg, isCr3Write, isBy}
-use Rattle.marks.specs.Work.{workBytes}
-use Rattle.marks.specs.Follow.{rereadWord, restarted}
+use Rattle.held.specs.Work.{workBytes}
+use Rattle.held.specs.Follow.{rereadWord, restarted}
 use Rattle.listing.specs.Replay.{Replay, replayOf, Reach, forgets, applied}
 
 module _ (G page a : ℕ) where

@@ -3,7 +3,7 @@ use mathlib.Core.Path.{_≡_, refl, sym, _∙_, ap}
 use Prim.Native.Nat.{ℕ, _+_, _*_, _/_, _%_, _≤_, _<_}
 use native.Mathlib.Nat.{mod-lt, div-add-mod', div-lt-iff-lt-mul}
 use native.Mathlib.Omega.{arith}
-use Rattle.marks.specs.Work.{cell, workBytes, HasByte}
+use Rattle.held.specs.Work.{cell, workBytes, HasByte}
 use Rattle.listing.specs.Collect.{walkAt}
 
 module _ (G k : ℕ) (some : 0 < G) where

@@ -23,14 +23,14 @@ use Rattle.rules.specs.declared.Outcome.{Outcome}
 use Rattle.rules.specs.declared.Outcome.the-variants.{Address, Fault}
 use Rattle.rules.specs.View.{View}
 use Rattle.rules.specs.Held.{Held}
-use Rattle.rules.specs.Outcome.{given, Permitted, Before, Rises, Right}
+use Rattle.rules.specs.Outcome.{given, Permitted, Before, Rises, RightList}
 use Rattle.rules.proofs.Order.{Mem}
 use Rattle.rules.proofs.Steps.{Kept, held-is-kept}
-use Rattle.marks.specs.Work.{cell, workBytes, HasByte}
-use Rattle.marks.specs.Follow.{isMarked, walkOf, stepIn}
-use Rattle.marks.proofs.Cells.{cell-below, cell-own, complete-first}
-use Rattle.marks.proofs.Closing.{Marked}
-use Rattle.marks.proofs.Tracks.{Told, Tracks, kept-byte}
+use Rattle.held.specs.Work.{cell, workBytes, HasByte}
+use Rattle.held.specs.Follow.{isSet, walkOf, stepIn}
+use Rattle.held.proofs.Cells.{cell-below, cell-own, complete-first}
+use Rattle.held.proofs.Closing.{ByteSet}
+use Rattle.held.proofs.Tracks.{Told, Tracks, kept-byte}
 use Rattle.listing.specs.Call.{pairs}
 use Rattle.listing.specs.Collect.{Out, outOf, pushed, stopCode, walkAt, servesWith, serves, lacksAt, lacks, stopsAt, stops, addresses, collected}
 use Rattle.listing.proofs.Bytes.{byte-walk, byte-cell}
@@ -197,8 +197,8 @@ module _ (seen : View) (G page : ℕ) (words : ℕ → List ℕ) (t : Told table
   unfolding serves
   from-serves f hf e =
       let (r, hr, u) = some-e (servesWith G q work f) 8 e in
-      let m = eqb-true _ 1 (T-true _ (and-l (isMarked G work (walkOf 0 f r)) _ (true-T _ u))) in
-      let good : enough q r ≡ true = T-true _ (and-r (isMarked G work (walkOf 0 f r)) _ (true-T _ u)) in
+      let m = eqb-true _ 1 (T-true _ (and-l (isSet G work (walkOf 0 f r)) _ (true-T _ u))) in
+      let good : enough q r ≡ true = T-true _ (and-r (isSet G work (walkOf 0 f r)) _ (true-T _ u)) in
       let w = walkOf 0 f r in
       let h = tracks .sound w (record { level = omega arith; frame = hf; rights = hr }) m in
       permit w Complete (Address (guest f)) h (t .law .done n w refl) (rw good (List·Memᴰ·head refl))
@@ -237,7 +237,7 @@ module _ (seen : View) (G page : ℕ) (words : ℕ → List ℕ) (t : Told table
     to-serves : w .level ≡ 0 → enough q (w .rights) ≡ true → serves G q work (w .frame .0) ≡ true
     unfolding serves
     to-serves z good =
-        let m : Marked G work (walkOf 0 (w .frame .0) (w .rights)) =
+        let m : ByteSet G work (walkOf 0 (w .frame .0) (w .rights)) =
         ap (λ (l : ℕ). getD work (cell G (walkOf l (w .frame .0) (w .rights))) 0) (sym z) ∙ tracks .full w h in
         some-i (servesWith G q work (w .frame .0)) 8 (w .rights) (byte .rights) (simp (eq-eqb _ 1 m) good)
 
@@ -269,7 +269,7 @@ module _ (seen : View) (G page : ℕ) (words : ℕ → List ℕ) (t : Told table
             go (no ge) = omega arith
 
   -- THE LIST IS RIGHT
-  pub listed-right : Right seen q n (listed G page q (words n) work)
+  pub listed-right : RightList seen q n (listed G page q (words n) work)
   listed-right = record { rises = listed-rises G page q (words n) work; exact = λ o. (to o, from o) }
     where
       to : (o : Outcome) → Mem o (listed G page q (words n) work) → Permitted seen q n o

@@ -16,16 +16,16 @@ use Rattle.rules.specs.declared.Outcome.{Outcome}
 use Rattle.rules.specs.History.{wordsAt}
 use Rattle.rules.specs.View.{View, viewOf}
 use Rattle.rules.specs.Held.{Held}
-use Rattle.rules.specs.Outcome.{Right}
+use Rattle.rules.specs.Outcome.{RightList}
 use Rattle.rules.proofs.Steps.{Kept, held-is-kept}
 use Rattle.rules.proofs.Theorems.{one-list, some-outcome}
-use Rattle.marks.specs.Work.{cell, workBytes, HasByte, Says, WorkSays}
-use Rattle.marks.specs.Follow.{restarted}
-use Rattle.marks.proofs.Cells.{cell-below}
-use Rattle.marks.proofs.Tracks.{Told, Tracks}
+use Rattle.held.specs.Work.{cell, workBytes, HasByte, Tells, WorkTells}
+use Rattle.held.specs.Follow.{restarted}
+use Rattle.held.proofs.Cells.{cell-below}
+use Rattle.held.proofs.Tracks.{Told, Tracks}
 use Rattle.listing.specs.declared.Listed.{Listed}
 use Rattle.listing.specs.declared.Listed.the-variants.{Count, Refused}
-use Rattle.listing.specs.Call.{Asked, Lent, lent, setupOf, pairs, refusalOf, countOf, listRefusal, Lists, ListCall}
+use Rattle.listing.specs.Call.{Asked, Lent, lent, setupAsked, pairs, refusalOf, countOf, listRefusal, Lists, ListCall}
 use Rattle.rules.specs.Numbers.{eventsOf}
 use Rattle.listing.specs.Replay.{Replay, replayOf}
 use Rattle.listing.specs.Collect.{Out, outOf, walkAt, collected}
@@ -38,10 +38,10 @@ use Rattle.listing.proofs.Bytes.{byte-walk, byte-cell}
 
 -- bytes that mark the held walks say so
 says : (seen : View) (G page : ℕ) (words : ℕ → List ℕ) (t : Told tables64 seen G page words) (n : ℕ) (before after : List ℕ) → Tracks tables64 seen G page words n after
-    → length after ≡ length before → ((k : ℕ) → workBytes G ≤ k → getD after k 0 ≡ getD before k 0) → WorkSays G (Held seen n) before after
+    → length after ≡ length before → ((k : ℕ) → workBytes G ≤ k → getD after k 0 ≡ getD before k 0) → WorkTells G (Held seen n) before after
 says seen G page words t n before after tracks size rest = record { size = size; each = λ w h. byte w h (tracks .bits (cell G w) (cell-below G w h)); rest = rest }
   where
-    byte : (w : Walk) → HasByte G w → (getD after (cell G w) 0 ≡ 0) ⊎ (getD after (cell G w) 0 ≡ 1) → Says (getD after (cell G w) 0) (Held seen n w)
+    byte : (w : Walk) → HasByte G w → (getD after (cell G w) 0 ≡ 0) ⊎ (getD after (cell G w) 0 ≡ 1) → Tells (getD after (cell G w) 0) (Held seen n w)
     byte w h (inl z) = inr (z, λ held. let one = tracks .full w (held-is-kept seen (t .law) n w .0 held) in omega arith)
     byte w h (inr e) = inl (e, held-is-kept seen (t .law) n w .1 (tracks .sound w h e))
 
@@ -70,8 +70,8 @@ module _ (q : Asked) (b : Lent) (ok : Accepted q b) where
   pub lists : (count : ℕ) (words work outcomes : List ℕ)
       → Answers G (b .words) (b .work) (b .outcomes) (q .events) (q .question) first count words work outcomes → Lists q b (lent words work outcomes) count
   lists count words work outcomes a =
-      let seen = viewOf (setupOf q b) (eventsOf (q .events)) (q .question .proc) page in
-      let at = wordsAt (setupOf q b) (eventsOf (q .events)) in
+      let seen = viewOf (setupAsked q b) (eventsOf (q .events)) (q .question .proc) page in
+      let at = wordsAt (setupAsked q b) (eventsOf (q .events)) in
       let t : Told tables64 seen G page at = told G (length (q .cr3s)) (b .words) (q .cr3s) (eventsOf (q .events)) (q .question .proc) page (fit q b ok) (ok .proc) in
       let new-words : words ≡ at N = a .words-are ∙ final .words-are in
       let tracks : Tracks tables64 seen G page at N work = subst (λ (l : List ℕ). Tracks tables64 seen G page at N l) (sym (a .work-is)) (final .tracks) in
@@ -92,10 +92,10 @@ module _ (q : Asked) (b : Lent) (ok : Accepted q b) where
 -- ---- one result
 
 -- two buffers that say which walks are held are equal
-same-bytes : (G : ℕ) → 0 < G → (P : Walk → Type 0) (before x y : List ℕ) → WorkSays G P before x → WorkSays G P before y → x ≡ y
+same-bytes : (G : ℕ) → 0 < G → (P : Walk → Type 0) (before x y : List ℕ) → WorkTells G P before x → WorkTells G P before y → x ≡ y
 same-bytes G some P before x y a b = ext-getD 0 x y (a .size ∙ sym (b .size)) (λ k h. go k (decLt k (workBytes G)))
   where
-    both : {m n : ℕ} {A : Type 0} → Says m A → Says n A → m ≡ n
+    both : {m n : ℕ} {A : Type 0} → Tells m A → Tells n A → m ≡ n
     both (inl (e, h)) (inl (d, k)) = e ∙ sym d
     both (inl (e, h)) (inr (d, k)) = absurd (k h)
     both (inr (e, h)) (inl (d, k)) = absurd (h k)
@@ -117,11 +117,11 @@ module _ (q : Asked) (b : Lent) where
 
   pub same-lists : 0 < length (q .map) → (x y : Lent) (m n : ℕ) → Lists q b x m → Lists q b y n → (x ≡ y) × (m ≡ n) × (0 < m)
   same-lists some x y m n c d =
-      let same = one-list (setupOf q b) (eventsOf (q .events)) (q .question) tables64-sound (length (q .events) / 4) (c .list) (d .list) (c .right) (d .right) in
+      let same = one-list (setupAsked q b) (eventsOf (q .events)) (q .question) tables64-sound (length (q .events) / 4) (c .list) (d .list) (c .right) (d .right) in
       let words = c .words ∙ sym (d .words) in
       let work = same-bytes (length (q .map)) some _ (b .work) (x .work) (y .work) (c .work) (d .work) in
       let outcomes = c .outcomes ∙ ap (λ (l : List Outcome). pairs l ++ drop (2 * length l) (b .outcomes)) same ∙ sym (d .outcomes) in
-      let full = some-outcome (setupOf q b) (eventsOf (q .events)) (q .question) tables64-sound (length (q .events) / 4) (c .list) (c .right) in (
+      let full = some-outcome (setupAsked q b) (eventsOf (q .events)) (q .question) tables64-sound (length (q .events) / 4) (c .list) (c .right) in (
         (λ i. lent (words i) (work i) (outcomes i)),
         c .counted ∙ ap length same ∙ sym (d .counted),
         rw (c .counted) full,

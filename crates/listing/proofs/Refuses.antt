@@ -12,7 +12,7 @@ use Rattle.paging.specs.Frame.{mapFits, cr3sFit}
 use Rattle.rules.specs.Refusal.{refusal}
 use Rattle.rules.specs.History.{eventRefusal}
 use Rattle.rules.specs.Outcome.{questionRefusal}
-use Rattle.listing.specs.Call.{Asked, Lent, setupOf, lengthsFit, orElse, firstRefusal, listRefusal}
+use Rattle.listing.specs.Call.{Asked, Lent, setupAsked, lengthsFit, orElse, firstRefusal, listRefusal}
 use Rattle.rules.specs.Numbers.{eventOf}
 
 pub or-first : (n m : ℕ) → (n ≡ 0 → ⊥) → orElse n m ≡ n
@@ -75,6 +75,6 @@ module _ (q : Asked) (b : Lent) where
 
       pub list-later : cr3sFit (length (q .map)) (q .cr3s) ≡ true
           → listRefusal q b
-          ≡ orElse (firstRefusal (length (q .events) / 4) (λ k. eventRefusal (setupOf q b) (eventOf (q .events) k))) (questionRefusal (setupOf q b) (q .question))
+          ≡ orElse (firstRefusal (length (q .events) / 4) (λ k. eventRefusal (setupAsked q b) (eventOf (q .events) k))) (questionRefusal (setupAsked q b) (q .question))
       unfolding listRefusal refusal
       list-later e = simp (sizes, map, e)

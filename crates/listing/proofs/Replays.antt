@@ -20,14 +20,14 @@ use Rattle.paging.proofs.Tests.{false-T}
 use Rattle.rules.specs.declared.Event.{Event}
 use Rattle.rules.specs.History.{Setup, setup64, Fit, eventAt, wordsAt, cr3At, isStore, isInvlpg, isCr3Write, isBy}
 use Rattle.rules.specs.View.{View, viewOf, endsPartialOf, endsCompleteOf}
-use Rattle.rules.proofs.Lawful.{lawful, rooted}
+use Rattle.rules.proofs.Views.{coherent, rooted}
 use Rattle.rules.proofs.Steps.{ends, byLevel, never}
-use Rattle.marks.specs.Work.{cell, workBytes, HasByte}
-use Rattle.marks.specs.Follow.{cleared, stepIn, rereadWord, restarted}
-use Rattle.marks.proofs.Cells.{cell-below, complete-first}
-use Rattle.marks.proofs.Closing.{Grows, word-grows}
-use Rattle.marks.proofs.Tracks.{Told, Tracks, after-store, after-idle}
-use Rattle.marks.proofs.Clears.{cleared-size, cleared-above, from-start, after-end, restart-grows}
+use Rattle.held.specs.Work.{cell, workBytes, HasByte}
+use Rattle.held.specs.Follow.{cleared, stepIn, rereadWord, restarted}
+use Rattle.held.proofs.Cells.{cell-below, complete-first}
+use Rattle.held.proofs.Closing.{Grows, word-grows}
+use Rattle.held.proofs.Tracks.{Told, Tracks, after-store, after-idle}
+use Rattle.held.proofs.Clears.{cleared-size, cleared-above, from-start, after-end, restart-grows}
 use Rattle.rules.specs.Numbers.{eventOf}
 use Rattle.listing.specs.Replay.{Replay, replayOf, Reach, forgets, applied, replayed}
 use Rattle.listing.proofs.Applies.{forgets-all, forgets-partial, applied-store, applied-other, applied-invlpg, applied-cr3, applied-none, applied-in}
@@ -78,7 +78,7 @@ module _ (G P : ℕ) (ws cs : List ℕ) (es : List Event) (p page : ℕ) where
   read-is n w = refl
 
   pub told : Fit U es → p < P → Told tables64 seen G page (wordsAt U es)
-  told fit h = record { reads = read-is; sound = tables64-sound; few = omega arith; law = lawful U es p page tables64-sound; root = rooted U es p page fit h }
+  told fit h = record { reads = read-is; sound = tables64-sound; few = omega arith; law = coherent U es p page tables64-sound; root = rooted U es p page fit h }
 
   -- after n events
   pub record Follows (work₀ : List ℕ) (n : ℕ) (s : Replay) : Type 0 where

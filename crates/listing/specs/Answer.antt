@@ -7,13 +7,13 @@ use Rattle.paging.specs.Frame.{guest}
 use Rattle.paging.specs.Layout.{tables64, pageOf}
 use Rattle.paging.specs.Request.{requestOf}
 use Rattle.rules.specs.declared.Question.{Question}
-use Rattle.marks.specs.Work.{Room}
-use Rattle.marks.specs.Follow.{restarted}
+use Rattle.held.specs.Work.{Room}
+use Rattle.held.specs.Follow.{restarted}
 use Rattle.rules.specs.Numbers.{eventOf}
 use Rattle.listing.specs.Replay.{Replay, replayOf, Reach, replayed}
 use Rattle.listing.specs.Collect.{outOf, collected}
 
-pub record Ready (G : ℕ) (words work outcomes events : List ℕ) (q : Question) (start : ℕ) : Type 0 where
+pub record Answerable (G : ℕ) (words work outcomes events : List ℕ) (q : Question) (start : ℕ) : Type 0 where
   pub room : Room G words work
   pub some : 0 < G
   pub start-in : start < G

@@ -17,7 +17,7 @@ use Rattle.rules.specs.View.{viewOf}
 use Rattle.rules.specs.Numbers.{eventOf, eventsOf}
 use Rattle.rules.specs.Held.{Held}
 use Rattle.rules.specs.Outcome.{RightAt, questionRefusal}
-use Rattle.marks.specs.Work.{workBytes, WorkSays}
+use Rattle.held.specs.Work.{workBytes, WorkTells}
 use Rattle.listing.specs.declared.Listed.{Listed}
 use Rattle.listing.specs.declared.Listed.the-variants.{Count, Refused}
 
@@ -40,8 +40,8 @@ pub record Lent : Type 0 where
 abbrev pub lent : List ℕ → List ℕ → List ℕ → Lent
 lent w k o = record { words = w; work = k; outcomes = o }
 
-abbrev pub setupOf : Asked → Lent → Setup
-setupOf q b = setup64 (length (q .map)) (length (q .cr3s)) (b .words) (q .cr3s)
+abbrev pub setupAsked : Asked → Lent → Setup
+setupAsked q b = setup64 (length (q .map)) (length (q .cr3s)) (b .words) (q .cr3s)
 
 -- ---- refusals
 
@@ -72,8 +72,8 @@ firstRefusal (suc n) f = orElse (firstRefusal n f) (f n)
 unfoldable pub listRefusal : Asked → Lent → ℕ
 listRefusal q b =
     orElse (refusal (test 1 (not (lengthsFit q b)) ∷ test 2 (not (mapFits (2 ^ tables64 .frameBits) (q .map))) ∷ test 7 (not (cr3sFit (length (q .map)) (q .cr3s))) ∷ []))
-    (orElse (firstRefusal (length (q .events) / 4) (λ k. eventRefusal (setupOf q b) (eventOf (q .events) k)))
-    (questionRefusal (setupOf q b) (q .question)))
+    (orElse (firstRefusal (length (q .events) / 4) (λ k. eventRefusal (setupAsked q b) (eventOf (q .events) k)))
+    (questionRefusal (setupAsked q b) (q .question)))
 
 -- ---- what is answered
 
@@ -96,12 +96,12 @@ countOf (Refused n) = 0
 -- stores done"; work bytes that say which walks are held
 pub record Lists (q : Asked) (before after : Lent) (count : ℕ) : Type 0 where
   pub list : List Outcome
-  pub right : RightAt (setupOf q before) (eventsOf (q .events)) (q .question) (length (q .events) / 4) list
+  pub right : RightAt (setupAsked q before) (eventsOf (q .events)) (q .question) (length (q .events) / 4) list
   pub counted : count ≡ length list
   pub outcomes : after .outcomes ≡ pairs list ++ drop (2 * length list) (before .outcomes)
-  pub words : after .words ≡ wordsAt (setupOf q before) (eventsOf (q .events)) (length (q .events) / 4)
-  pub work : WorkSays (length (q .map))
-      (Held (viewOf (setupOf q before) (eventsOf (q .events)) (q .question .proc) (pageOf tables64 (q .question .addr))) (length (q .events) / 4))
+  pub words : after .words ≡ wordsAt (setupAsked q before) (eventsOf (q .events)) (length (q .events) / 4)
+  pub work : WorkTells (length (q .map))
+      (Held (viewOf (setupAsked q before) (eventsOf (q .events)) (q .question .proc) (pageOf tables64 (q .question .addr))) (length (q .events) / 4))
       (before .work) (after .work)
 
 -- THE PROMISE OF THE LIST CALL

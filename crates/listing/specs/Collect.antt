@@ -11,8 +11,8 @@ use Rattle.paging.specs.declared.Step.the-variants.{On, Absent, Beyond, Complet
 use Rattle.paging.specs.Numbers.{some, each}
 use Rattle.paging.specs.Request.{enough}
 use Rattle.listing.specs.declared.Faults.{Faults}
-use Rattle.marks.specs.Work.{cell}
-use Rattle.marks.specs.Follow.{isMarked, walkOf, stepIn}
+use Rattle.held.specs.Work.{cell}
+use Rattle.held.specs.Follow.{isSet, walkOf, stepIn}
 use Rattle.paging.specs.Layout.{tables64}
 
 -- the outcomes written so far, and the buffer
@@ -41,7 +41,7 @@ walkAt G k = walkOf (k / 8 / G) (k / 8 % G) (k % 8)
 
 -- a held completed walk on frame f has enough rights
 abbrev pub servesWith : ℕ → Request → List ℕ → ℕ → ℕ → Bool
-servesWith G q work f r = isMarked G work (walkOf 0 f r) && enough q r
+servesWith G q work f r = isSet G work (walkOf 0 f r) && enough q r
 
 unfoldable pub serves : ℕ → Request → List ℕ → ℕ → Bool
 serves G q work f = some 8 (servesWith G q work f)

@@ -10,13 +10,13 @@ ghost use mathlib.Core.Path.{_≡_};
 ghost use Prim.Native.Nat.{ℕ, _+_, _-_, _*_, _/_, _%_, _^_, _≤_, _<_};
 ghost use lib.ListN.{length};
 ghost use Rattle.paging.specs.Layout.{tables64, frameWords};
-ghost use Rattle.marks.specs.Work.{workBytes, HasByte, Room};
-ghost use Rattle.marks.specs.Follow.{walkOf};
+ghost use Rattle.held.specs.Work.{workBytes, HasByte, Room};
+ghost use Rattle.held.specs.Follow.{walkOf};
 ghost use mathlib.Core.List.{List};
 ghost use Rattle.rules.specs.History.{setup64, eventRefusal};
 ghost use Rattle.listing.specs.Call.{Lent, asked, lent, sizesFit, firstRefusal, listRefusal, ListCall};
 ghost use Rattle.rules.specs.Numbers.{eventOf};
-ghost use Rattle.listing.specs.Answer.{Ready, Answers};
+ghost use Rattle.listing.specs.Answer.{Answerable, Answers};
 ghost use Rattle.listing.specs.Replay.{Reach, replayOf, forgets, applied, replayed};
 ghost use Rattle.listing.specs.Collect.{outOf, pushed, stopCode, walkAt, servesWith, serves, lacksAt, lacks, stopAt, withFault, stops, addresses, collected};
 
@@ -66,7 +66,7 @@ fn apply(
     if kind == 1 {
         let i = a as usize;
         words[i] = e.b;
-        marks::reread_word(words, work, frames, page, a);
+        held::reread_word(words, work, frames, page, a);
         return cr3;
     }
     if e.proc != p {
@@ -74,11 +74,11 @@ fn apply(
     }
     if kind == 2 {
         let from = forgotten(frames, page, a);
-        marks::restart(words, work, frames, page, from, Guest(cr3));
+        held::restart(words, work, frames, page, from, Guest(cr3));
         return cr3;
     }
     if kind == 3 {
-        marks::restart(words, work, frames, page, 0, Guest(a));
+        held::restart(words, work, frames, page, 0, Guest(a));
         return a;
     }
     cr3
@@ -119,7 +119,7 @@ fn serves_with(work: &[u8], frames: u64, q: Request, f: u64, r: u64) -> bool
         frame: Guest(f),
         rights: r,
     };
-    let k = marks::cell_of(frames, w);
+    let k = held::cell_of(frames, w);
     if work[k] != 1 {
         return false;
     }
@@ -195,7 +195,7 @@ fn stop_at(words: &[u64], work: &[u8], frames: u64, page: u64, k: usize) -> u64
     if work[k] != 1 {
         return 1;
     }
-    let s = marks::next(words, frames, page, walk_at(frames, k as u64));
+    let s = held::next(words, frames, page, walk_at(frames, k as u64));
     stop_code(s)
 }
 
@@ -383,11 +383,11 @@ fn answer(
     q: Question,
     start: u64,
 ) -> u64
-    requires { ⌜ Ready frames (now words) (now work) (now outcomes) (now events) q start ⌝ }
+    requires { ⌜ Answerable frames (now words) (now work) (now outcomes) (now events) q start ⌝ }
     ensures { λ r. ⌜ Answers frames (now (words .entry)) (now (work .entry)) (now (outcomes .entry)) (now (events .entry)) q start r (now (words .exit)) (now (work .exit)) (now (outcomes .exit)) ⌝ }
 {
     let page = paging::page_of(q.addr);
-    marks::restart(words, work, frames, page, 0, Guest(start));
+    held::restart(words, work, frames, page, 0, Guest(start));
     replay(words, work, events, frames, q.proc, page, start);
     collect(
         words,

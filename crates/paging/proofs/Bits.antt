@@ -5,7 +5,7 @@ use native.Mathlib.Nat.{add-comm, mod-lt}
 use native.Mathlib.Omega.{arith}
 use lib.Bits.{bitOr, bitXor, and-mask, or-shifted-r, or-block, or-step, or-zero-r, xor-add-and}
 use lib.Pow.{pow-pos, shl-exact, split}
-use Rattle.paging.specs.Layout.{mark}
+use Rattle.paging.specs.Layout.{withBit}
 
 -- a field of j bits put in at place k, above what is there
 pub put-field : {o acc : ℕ} (x j k : ℕ) → o ≡ acc → acc < 2 ^ k → x < 2 ^ j → j + k ≤ 64
@@ -16,8 +16,8 @@ put-field {o} {acc} x j k e ha hx hj =
 set-low : (q : ℕ) → bitOr q 1 ≡ q + (1 - q % 2)
 set-low q = or-step q 1 ∙ ap (λ (x : ℕ). x * 2 + max (q % 2) 1) (or-zero-r (q / 2)) ∙ omega arith
 
-pub set-bit : (e k : ℕ) → bitOr e (2 ^ k) ≡ mark k e
-unfolding mark
+pub set-bit : (e k : ℕ) → bitOr e (2 ^ k) ≡ withBit k e
+unfolding withBit
 set-bit e k =
     ap₂ bitOr (sym (split e k)) (omega arith)
     ∙ or-block k (e / 2 ^ k) 1 (e % 2 ^ k) 0 (mod-lt e (pow-pos k)) (pow-pos k)

@@ -16,7 +16,7 @@ use Rattle.paging.specs.declared.Walk.{Walk}
 use Rattle.paging.specs.declared.Step.{Step}
 use Rattle.paging.specs.declared.Step.the-variants.{On, Absent, Beyond, Complete}
 use Rattle.paging.specs.Frame.{guest}
-use Rattle.paging.specs.Layout.{Layout, tables64, frameWords, bit, get, put, frameOf, rightsOf, compose, isPresent, mark}
+use Rattle.paging.specs.Layout.{Layout, tables64, frameWords, bit, get, put, frameOf, rightsOf, compose, isPresent, withBit}
 use Rattle.paging.specs.Walk.{meet, withRights, downTo, step}
 use Rattle.paging.proofs.Finite.{at-below}
 
@@ -40,9 +40,9 @@ pub record Sound (Y : Layout) : Type 0 where
   pub beside : (f i j w e : ℕ) → i < 2 ^ Y .indexBits → j < 2 ^ Y .indexBits → (i ≡ j → ⊥) → Y .place f i ≡ Y .place f j
       → e < 2 ^ Y .entryBits → Y .part j (Y .join i w e) ≡ Y .part j w
   -- so is an entry in which A or D is set, whatever its word holds
-  pub marked : (k i w : ℕ) → Flag k → Y .part i (Y .join i w (mark k (Y .part i w))) ≡ mark k (Y .part i w)
-  pub marked-beside : (k f i j w : ℕ) → Flag k → i < 2 ^ Y .indexBits → j < 2 ^ Y .indexBits → (i ≡ j → ⊥) → Y .place f i ≡ Y .place f j
-      → Y .part j (Y .join i w (mark k (Y .part i w))) ≡ Y .part j w
+  pub bit-set : (k i w : ℕ) → Flag k → Y .part i (Y .join i w (withBit k (Y .part i w))) ≡ withBit k (Y .part i w)
+  pub bit-beside : (k f i j w : ℕ) → Flag k → i < 2 ^ Y .indexBits → j < 2 ^ Y .indexBits → (i ≡ j → ⊥) → Y .place f i ≡ Y .place f j
+      → Y .part j (Y .join i w (withBit k (Y .part i w))) ≡ Y .part j w
   -- a word that is 0 has no entry but 0
   pub zero-part : (i : ℕ) → Y .part i 0 ≡ 0
   -- NX is neither A nor D
@@ -99,8 +99,8 @@ low-one e d h = omega arith
 low-two : (e d : ℕ) → e % 32 ≡ d % 32 → bit e 2 ≡ bit d 2
 low-two e d h = omega arith
 
-low-mark : (e x m : ℕ) → (e + x * (32 * m)) % 32 ≡ e % 32
-low-mark e x m = ap (λ (y : ℕ). (e + y) % 32) (ap (λ (y : ℕ). x * y) (mul-comm 32 m) ∙ sym (mul-assoc x m 32)) ∙ omega arith
+low-with-bit : (e x m : ℕ) → (e + x * (32 * m)) % 32 ≡ e % 32
+low-with-bit e x m = ap (λ (y : ℕ). (e + y) % 32) (ap (λ (y : ℕ). x * y) (mul-comm 32 m) ∙ sym (mul-assoc x m 32)) ∙ omega arith
 
 pub tables64-sound : Sound tables64
 unfolding compose frameOf
@@ -111,8 +111,8 @@ tables64-sound = record {
   above = λ f G i h. omega arith;
   joined = λ i w e h. refl;
   beside = λ f i j w e hi hj ne same. absurd (ne (omega arith));
-  marked = λ k i w h. refl;
-  marked-beside = λ k f i j w h hi hj ne same. absurd (ne (omega arith));
+  bit-set = λ k i w h. refl;
+  bit-beside = λ k f i j w h hi hj ne same. absurd (ne (omega arith));
   zero-part = λ i. refl;
   nx-alike = λ {e} {d} a. ap (λ (x : ℕ). x % 2) (above-seven e 56 ∙ ap (λ (x : ℕ). x / 2 ^ 56) (a .high) ∙ sym (above-seven d 56));
   composed-frame = λ r d f hd hf. sum-frame (bit r 0) (bit r 1) d f (1 - bit r 2) (bit-small r 0) (bit-small r 1) hd hf (omega arith);
@@ -209,10 +209,10 @@ module _ (Y : Layout) (ok : Sound Y) where
 -- ---- setting A and D
 
 -- what stands above a bit that is set, and below it
-mark-above : (e k m : ℕ) → mark k e / 2 ^ (k + (1 + m)) ≡ e / 2 ^ (k + (1 + m))
-unfolding mark
-mark-above e k m =
-    sym (shr-shr (mark k e) k (1 + m))
+with-bit-above : (e k m : ℕ) → withBit k e / 2 ^ (k + (1 + m)) ≡ e / 2 ^ (k + (1 + m))
+unfolding withBit
+with-bit-above e k m =
+    sym (shr-shr (withBit k e) k (1 + m))
     ∙ ap (λ (x : ℕ). x / 2 ^ (1 + m)) (add-mul-div-right e (1 - bit e k) (pow-pos k))
     ∙ sym (shr-shr (e / 2 ^ k + (1 - bit e k)) 1 m)
     ∙ ap (λ (x : ℕ). x / 2 ^ m) (odd (e / 2 ^ k))
@@ -222,17 +222,17 @@ mark-above e k m =
     odd : (q : ℕ) → (q + (1 - q % 2)) / 2 ≡ q / 2
     odd q = omega arith
 
-pub mark-a-alike : (e : ℕ) → Alike (mark 5 e) e
-unfolding mark
-mark-a-alike e = record { low = low-mark e (1 - bit e 5) 1; high = mark-above e 5 1 }
+pub with-a-alike : (e : ℕ) → Alike (withBit 5 e) e
+unfolding withBit
+with-a-alike e = record { low = low-with-bit e (1 - bit e 5) 1; high = with-bit-above e 5 1 }
 
-pub mark-d-alike : (e : ℕ) → Alike (mark 6 e) e
-unfolding mark
-mark-d-alike e = record { low = low-mark e (1 - bit e 6) 2; high = mark-above e 6 0 }
+pub with-d-alike : (e : ℕ) → Alike (withBit 6 e) e
+unfolding withBit
+with-d-alike e = record { low = low-with-bit e (1 - bit e 6) 2; high = with-bit-above e 6 0 }
 
-pub mark-alike : (k e : ℕ) → Flag k → Alike (mark k e) e
-mark-alike k e (inl a) = rw a (mark-a-alike e)
-mark-alike k e (inr d) = rw d (mark-d-alike e)
+pub with-bit-alike : (k e : ℕ) → Flag k → Alike (withBit k e) e
+with-bit-alike k e (inl a) = rw a (with-a-alike e)
+with-bit-alike k e (inr d) = rw d (with-d-alike e)
 
 pub alike-refl : (e : ℕ) → Alike e e
 alike-refl e = record { low = refl; high = refl }
@@ -243,22 +243,22 @@ alike-sym a = record { low = sym (a .low); high = sym (a .high) }
 pub alike-trans : {e d c : ℕ} → Alike e d → Alike d c → Alike e c
 alike-trans a b = record { low = a .low ∙ b .low; high = a .high ∙ b .high }
 
--- ---- an entry is marked in its word: it reads marked, and every other entry of the words stays
+-- ---- a bit of an entry is set in its word: the entry reads with it, and every other entry of the words stays
 
 module _ (Y : Layout) (ok : Sound Y) (ws : List ℕ) (k f i : ℕ) (flag : Flag k) (hi : i < 2 ^ Y .indexBits) where
-  abbrev pub withMark : List ℕ
-  withMark = put Y ws f i (mark k (get Y ws f i))
+  abbrev pub withFlag : List ℕ
+  withFlag = put Y ws f i (withBit k (get Y ws f i))
 
-  pub get-mark : Y .place f i < length ws → get Y withMark f i ≡ mark k (get Y ws f i)
+  pub get-with-bit : Y .place f i < length ws → get Y withFlag f i ≡ withBit k (get Y ws f i)
   unfolding get put
-  get-mark h = ap (Y .part i) (getD-set-same ws (Y .place f i) _ 0 h) ∙ ok .marked k i (getD ws (Y .place f i) 0) flag
+  get-with-bit h = ap (Y .part i) (getD-set-same ws (Y .place f i) _ 0 h) ∙ ok .bit-set k i (getD ws (Y .place f i) 0) flag
 
-  pub get-mark-other : (g j : ℕ) → j < 2 ^ Y .indexBits → (f ≡ g → i ≡ j → ⊥) → get Y withMark g j ≡ get Y ws g j
+  pub get-with-bit-other : (g j : ℕ) → j < 2 ^ Y .indexBits → (f ≡ g → i ≡ j → ⊥) → get Y withFlag g j ≡ get Y ws g j
   unfolding get put
-  get-mark-other g j hj ne = go (ℕ-discrete (Y .place g j) (Y .place f i)) (decLt (Y .place f i) (length ws))
+  get-with-bit-other g j hj ne = go (ℕ-discrete (Y .place g j) (Y .place f i)) (decLt (Y .place f i) (length ws))
     where
       word : ℕ
-      word = Y .join i (getD ws (Y .place f i) 0) (mark k (Y .part i (getD ws (Y .place f i) 0)))
+      word = Y .join i (getD ws (Y .place f i) 0) (withBit k (Y .part i (getD ws (Y .place f i) 0)))
 
       go : Dec (Y .place g j ≡ Y .place f i) → Dec (Y .place f i < length ws)
           → Y .part j (getD (set ws (Y .place f i) word) (Y .place g j) 0) ≡ Y .part j (getD ws (Y .place g j) 0)
@@ -269,17 +269,17 @@ module _ (Y : Layout) (ok : Sound Y) (ws : List ℕ) (k f i : ℕ) (flag : Flag 
           let at-f : Y .place f i ≡ Y .place f j = sym same ∙ ap (λ (x : ℕ). Y .place x j) (sym fg) in
           ap (λ (k : ℕ). Y .part j (getD (set ws (Y .place f i) word) k 0)) same
           ∙ ap (Y .part j) (getD-set-same ws (Y .place f i) word 0 h)
-          ∙ ok .marked-beside k f i j (getD ws (Y .place f i) 0) flag hi hj (ne fg) at-f
+          ∙ ok .bit-beside k f i j (getD ws (Y .place f i) 0) flag hi hj (ne fg) at-f
           ∙ ap (λ (k : ℕ). Y .part j (getD ws k 0)) (sym same)
 
   -- SO ALL ENTRIES STAY BUT FOR A AND D
-  pub mark-keeps : (g j : ℕ) → j < 2 ^ Y .indexBits → Alike (get Y withMark g j) (get Y ws g j)
-  mark-keeps g j hj = go (ℕ-discrete f g) (ℕ-discrete i j) (decLt (Y .place f i) (length ws))
+  pub with-bit-keeps : (g j : ℕ) → j < 2 ^ Y .indexBits → Alike (get Y withFlag g j) (get Y ws g j)
+  with-bit-keeps g j hj = go (ℕ-discrete f g) (ℕ-discrete i j) (decLt (Y .place f i) (length ws))
     where
-      go : Dec (f ≡ g) → Dec (i ≡ j) → Dec (Y .place f i < length ws) → Alike (get Y withMark g j) (get Y ws g j)
-      go (no a) d e = rw (get-mark-other g j hj (λ x y. a x)) (alike-refl (get Y ws g j))
-      go (yes a) (no b) e = rw (get-mark-other g j hj (λ x y. b y)) (alike-refl (get Y ws g j))
-      go (yes a) (yes b) (yes h) = rw (← a, ← b) (rw (get-mark h) (mark-alike k (get Y ws f i) flag))
+      go : Dec (f ≡ g) → Dec (i ≡ j) → Dec (Y .place f i < length ws) → Alike (get Y withFlag g j) (get Y ws g j)
+      go (no a) d e = rw (get-with-bit-other g j hj (λ x y. a x)) (alike-refl (get Y ws g j))
+      go (yes a) (no b) e = rw (get-with-bit-other g j hj (λ x y. b y)) (alike-refl (get Y ws g j))
+      go (yes a) (yes b) (yes h) = rw (← a, ← b) (rw (get-with-bit h) (with-bit-alike k (get Y ws f i) flag))
       go (yes a) (yes b) (no h) =
-          let q : withMark ≡ ws = unfold put in set-out ws (Y .place f i) _ (omega arith) in
+          let q : withFlag ≡ ws = unfold put in set-out ws (Y .place f i) _ (omega arith) in
           rw q (alike-refl (get Y ws g j))

@@ -4,7 +4,7 @@ use mathlib.Core.Logic.{_⊎_, inl, inr}
 use Prim.Native.Nat.{ℕ, zero, suc, _+_, _-_, _*_, _/_, _%_, _^_, _<_}
 use native.Mathlib.Omega.{arith}
 use lib.Dec.{ltb}
-use Rattle.paging.specs.Layout.{Layout, frameWords, bit, frameOf, compose, mark}
+use Rattle.paging.specs.Layout.{Layout, frameWords, bit, frameOf, compose, withBit}
 use Rattle.paging.proofs.Layouts.{Flag, Sound}
 
 -- a half of a word, and a word with another half
@@ -49,17 +49,17 @@ half-zero : (k : ℕ) → half k 0 ≡ 0
 half-zero zero = refl
 half-zero (suc k) = refl
 
-small-a : (e : ℕ) → e < 2 ^ 32 → mark 5 e < 2 ^ 32
-unfolding mark
+small-a : (e : ℕ) → e < 2 ^ 32 → withBit 5 e < 2 ^ 32
+unfolding withBit
 small-a e h = omega arith
 
-small-d : (e : ℕ) → e < 2 ^ 32 → mark 6 e < 2 ^ 32
-unfolding mark
+small-d : (e : ℕ) → e < 2 ^ 32 → withBit 6 e < 2 ^ 32
+unfolding withBit
 small-d e h = omega arith
 
-mark-small : (k e : ℕ) → Flag k → e < 2 ^ 32 → mark k e < 2 ^ 32
-mark-small k e (inl a) h = rw a (small-a e h)
-mark-small k e (inr d) h = rw d (small-d e h)
+with-bit-small : (k e : ℕ) → Flag k → e < 2 ^ 32 → withBit k e < 2 ^ 32
+with-bit-small k e (inl a) h = rw a (small-a e h)
+with-bit-small k e (inr d) h = rw d (small-d e h)
 
 bit-small : (e k : ℕ) → bit e k < 2
 bit-small e k = omega arith
@@ -79,9 +79,9 @@ tables32-sound = record {
   above = λ f G i h. omega arith;
   joined = λ i w e h. found (i % 2) w e h;
   beside = λ f i j w e hi hj ne same h. other (i % 2) (j % 2) w e (omega arith) (omega arith) (λ q. ne (omega arith)) h;
-  marked = λ k i w flag. found (i % 2) w (mark k (half (i % 2) w)) (mark-small k (half (i % 2) w) flag (half-small (i % 2) w));
-  marked-beside = λ k f i j w flag hi hj ne same.
-      other (i % 2) (j % 2) w (mark k (half (i % 2) w)) (omega arith) (omega arith) (λ q. ne (omega arith)) (mark-small k (half (i % 2) w) flag (half-small (i % 2) w));
+  bit-set = λ k i w flag. found (i % 2) w (withBit k (half (i % 2) w)) (with-bit-small k (half (i % 2) w) flag (half-small (i % 2) w));
+  bit-beside = λ k f i j w flag hi hj ne same.
+      other (i % 2) (j % 2) w (withBit k (half (i % 2) w)) (omega arith) (omega arith) (λ q. ne (omega arith)) (with-bit-small k (half (i % 2) w) flag (half-small (i % 2) w));
   zero-part = λ i. half-zero (i % 2);
   nx-alike = λ {e} {d} a. refl;
   composed-frame = λ r d f hd hf. sum-frame (bit r 0) (bit r 1) d f (1 - bit r 2) (bit-small r 0) (bit-small r 1) hd hf;

@@ -81,11 +81,11 @@ unfoldable pub isPresent : ℕ → Bool
 isPresent e = eqb (bit e 0) 1
 
 -- an entry with bit k set; A is bit 5 and D is bit 6
-unfoldable pub mark : ℕ → ℕ → ℕ
-mark k e = e + (1 - bit e k) * 2 ^ k
+unfoldable pub withBit : ℕ → ℕ → ℕ
+withBit k e = e + (1 - bit e k) * 2 ^ k
 
-abbrev pub markA : ℕ → ℕ
-markA e = mark 5 e
+abbrev pub withA : ℕ → ℕ
+withA e = withBit 5 e
 
-abbrev pub markD : ℕ → ℕ
-markD e = mark 6 e
+abbrev pub withD : ℕ → ℕ
+withD e = withBit 6 e

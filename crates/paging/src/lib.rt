@@ -5,7 +5,7 @@ ghost use Prim.Native.Nat.{ℕ, _<_, _≤_, _^_};
 ghost use lib.ListN.{length};
 ghost use Rattle.paging.specs.Numbers.{isBetween};
 ghost use Rattle.paging.specs.Frame.{hostOf, originOf, isNew, mapFits, notedAt, Noted, cr3sFit};
-ghost use Rattle.paging.specs.Layout.{tables64, pageOf, index, frameOf, rightsOf, compose, isPresent, mark, bit};
+ghost use Rattle.paging.specs.Layout.{tables64, pageOf, index, frameOf, rightsOf, compose, isPresent, withBit, bit};
 ghost use Rattle.paging.specs.Walk.{start, narrowed, downTo, step};
 ghost use Rattle.paging.specs.Request.{requestOf, enough};
 
@@ -74,7 +74,7 @@ pub fn present(e: u64) -> bool
     flag(e, 0) == 1
 }
 
-pub fn is_dirty(e: u64) -> u64
+pub fn d_of(e: u64) -> u64
     ensures { λ r. ⌜ r ≡ bit e 6 ⌝ }
 {
     flag(e, 6)
@@ -104,13 +104,13 @@ pub fn composed(rights: u64, d: u64, f: u64) -> u64
 }
 
 pub fn set_accessed(e: u64) -> u64
-    ensures { λ r. ⌜ r ≡ mark 5 e ⌝ }
+    ensures { λ r. ⌜ r ≡ withBit 5 e ⌝ }
 {
     e | (1 << 5)
 }
 
 pub fn set_dirty(e: u64) -> u64
-    ensures { λ r. ⌜ r ≡ mark 6 e ⌝ }
+    ensures { λ r. ⌜ r ≡ withBit 6 e ⌝ }
 {
     e | (1 << 6)
 }

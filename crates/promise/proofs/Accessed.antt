@@ -12,9 +12,9 @@ use Rattle.paging.specs.Walk.{start, step}
 use Rattle.rules.specs.declared.Event.{Event}
 use Rattle.rules.specs.History.{eventAt, wordsAt}
 use Rattle.rules.specs.View.{viewOf}
-use Rattle.rules.proofs.Lawful.{Lawful}
+use Rattle.rules.proofs.Views.{Coherent}
 use Rattle.rules.proofs.Steps.{Kept, begin}
-use Rattle.rules.proofs.Theorems.{view-lawful}
+use Rattle.rules.proofs.Theorems.{view-coherent}
 use Rattle.tables.specs.declared.Walked.{Walked}
 use Rattle.tables.specs.declared.Walked.the-variants.{Whole}
 use Rattle.tables.specs.State.{Machine, State, slotCount, pageIn, rootOf}
@@ -25,10 +25,10 @@ use Rattle.trees.proofs.Trees.{Able, shd}
 use Rattle.trees.proofs.Roots.{root-table, root-owner}
 use Rattle.trees.proofs.Slots.{SameSlot}
 use Rattle.keeps.proofs.Alikes.{same-refl}
-use Rattle.keeps.proofs.Right.{Mapped}
+use Rattle.keeps.proofs.RightStates.{Mapped}
 use Rattle.keeps.proofs.Moves.{page-small}
 use Rattle.keeps.proofs.Filled.{Fills}
-use Rattle.keeps.proofs.Accesses.{walked, marked, trod-same, marked-same, marked-leads, marked-right, filling, Way, slot, shadow, fault, lacks, again, ways}
+use Rattle.keeps.proofs.Accesses.{walked, written, walk-same, written-same, written-leads, written-right, filling, Way, slot, shadow, fault, lacks, again, ways}
 use Rattle.keeps.proofs.Again.{end-covers, end-frame, end-inside}
 use Rattle.promise.specs.Demand.{Fresh}
 use Rattle.promise.proofs.GuestWalks.{Ends, whole, absent, beyond, walks}
@@ -51,8 +51,8 @@ module _ (F : Fresh) (es : List Event) (k : ℕ) (s : State) (h : Holds F es k s
     abbrev pub rules : List ℕ
     rules = wordsAt (U F es) es k
 
-    pub law : Lawful (seen F es p v) (M .tables .levels) (M .frames)
-    law = view-lawful (U F es) es p v (h .laid .sound)
+    pub law : Coherent (seen F es p v) (M .tables .levels) (M .frames)
+    law = view-coherent (U F es) es p v (h .laid .sound)
 
     pub reads : (w : Walk) → seen F es p v .steps k w ≡ step (M .tables) (M .frames) w (get (M .tables) rules (w .frame .0) (index (M .tables) v (w .level)))
     unfolding viewOf
@@ -109,10 +109,10 @@ module _ (F : Fresh) (es : List Event) (k : ℕ) (s : State) (h : Holds F es k s
 
     module _ (last : Guest) (w : Walk) (q : walked M map p (e .a) (e .b) s .ended ≡ Whole last w) where
       abbrev f : State
-      f = fill M map p page (marked M map p (e .a) (e .b) s last)
+      f = fill M map p page (written M map p (e .a) (e .b) s last)
 
-      done : Fills M room spare map maps p own (marked M map p (e .a) (e .b) s last) (marked-right M map p (e .a) (e .b) s room spare maps own (h .right) last w q) page (page-small (M .tables) (e .a))
-          last (w .frame) (w .rights) (marked-leads M map p (e .a) (e .b) s (room .sound) last w q) f
+      done : Fills M room spare map maps p own (written M map p (e .a) (e .b) s last) (written-right M map p (e .a) (e .b) s room spare maps own (h .right) last w q) page (page-small (M .tables) (e .a))
+          last (w .frame) (w .rights) (written-leads M map p (e .a) (e .b) s (room .sound) last w q) f
       done = filling M map p (e .a) (e .b) s room spare maps own (h .right) last w q
 
       -- the page's own path is a walk of the guest's tables as they are
@@ -151,7 +151,7 @@ module _ (F : Fresh) (es : List Event) (k : ℕ) (s : State) (h : Holds F es k s
         laid = h .laid;
         right = right;
         size = size;
-        words = rw (done .words) (kept-words F es k s h ok (λ x. omega arith) (marked-same M map p (e .a) (e .b) s (h .laid .sound) last));
+        words = rw (done .words) (kept-words F es k s h ok (λ x. omega arith) (written-same M map p (e .a) (e .b) s (h .laid .sound) last));
         roots = λ r hr. root r hr (ℕ-discrete r p) ∙ h .roots r hr ∙ ap (λ (g : Guest). g .0) (sym (cr3-kept F es k r three));
         paths = λ r hr u hu. path r hr u hu (ℕ-discrete r p) (ℕ-discrete u page);
         slots = λ r hr j hj. slotted r hr j hj (ℕ-discrete r p);
@@ -175,8 +175,8 @@ module _ (F : Fresh) (es : List Event) (k : ℕ) (s : State) (h : Holds F es k s
     way : {out : Result} → Way M map p (e .a) (e .b) s out → After F es k s h ok (out .state)
     way (slot j hj v o) = rw o (still F es k s h ok (λ x. omega arith) two three (s .words) (same-refl (M .tables) (s .words)))
     way (shadow x v o) = rw o (still F es k s h ok (λ x. omega arith) two three (s .words) (same-refl (M .tables) (s .words)))
-    way (fault base x o) = rw o (still F es k s h ok (λ x. omega arith) two three (walked M map p (e .a) (e .b) s .words) (trod-same M map p (e .a) (e .b) s (h .laid .sound)))
-    way (lacks last w x v o) = rw o (still F es k s h ok (λ x. omega arith) two three (walked M map p (e .a) (e .b) s .words) (trod-same M map p (e .a) (e .b) s (h .laid .sound)))
+    way (fault base x o) = rw o (still F es k s h ok (λ x. omega arith) two three (walked M map p (e .a) (e .b) s .words) (walk-same M map p (e .a) (e .b) s (h .laid .sound)))
+    way (lacks last w x v o) = rw o (still F es k s h ok (λ x. omega arith) two three (walked M map p (e .a) (e .b) s .words) (walk-same M map p (e .a) (e .b) s (h .laid .sound)))
     way (again last w x v o) = rw o (filled last w x)
 
     pub accessed : After F es k s h ok (afterAccess M map p (e .a) (e .b) s .state)

@@ -12,16 +12,16 @@ use Rattle.paging.specs.Walk.{meet}
 use Rattle.rules.specs.declared.Event.{Event}
 use Rattle.tables.specs.State.{Machine, Shadow, State, tableCount, ownerOf, nextEntry, pathTo}
 use Rattle.tables.proofs.Counts.{by-cases}
-use Rattle.shadow.specs.After.{Result, callRefusal, after, afterBegin, afterLoss}
+use Rattle.shadow.specs.After.{Result, callRefusal, after, afterBegin, afterDrop}
 use Rattle.shadow.proofs.Accepted.{accepted-ranged, accepted-own}
 use Rattle.trees.proofs.Trees.{Laid, Able, Same, Trees}
 use Rattle.trees.proofs.Paths.{same-path, same-entry}
-use Rattle.keeps.proofs.Right.{Mapped, Right}
+use Rattle.keeps.proofs.RightStates.{Mapped, RightState}
 use Rattle.keeps.proofs.Moves.{extends}
 use Rattle.keeps.proofs.Takes.{invlpg-reshapes, cr3-reshapes}
 use Rattle.keeps.proofs.Accesses.{Way, slot, shadow, fault, lacks, again, ways, filling-reshapes}
 use Rattle.keeps.proofs.Again.{Serves}
-use Rattle.keeps.proofs.Events.{accepted-mapped, accepted-able, accepted-right, Kind, store, invlpg, cr3, access, begin, extend, loss, kinds}
+use Rattle.keeps.proofs.Events.{accepted-mapped, accepted-able, accepted-right, Kind, store, invlpg, cr3, access, begin, extend, drop, kinds}
 use Rattle.promise.specs.Demand.{mayStandBetween}
 
 -- the page's path serves in any state with the same tables
@@ -41,7 +41,7 @@ module _ (M : Machine) (map : List ℕ) (s : State) (e : Event) (laid : Laid (M 
   fits : Mapped M map
   fits = accepted-mapped M map s e ok
 
-  right : Right M map s
+  right : RightState M map s
   right = accepted-right M map s e ok laid
 
   by : e .proc < M .processors
@@ -85,7 +85,7 @@ module _ (M : Machine) (map : List ℕ) (s : State) (e : Event) (laid : Laid (M 
   kept : T (mayStandBetween p e) → {out : Result} → Kind M map s e out → Serves M (out .state) p page q
   kept t (store x h o) = rw o (serves-by M p page q s _ refl sv)
   kept t (begin x h o) = rw o (serves-by M p page q s _ (unfold afterBegin in refl) sv)
-  kept t (loss x h o) = rw o (serves-by M p page q s _ (unfold afterLoss in refl) sv)
+  kept t (drop x h o) = rw o (serves-by M p page q s _ (unfold afterDrop in refl) sv)
   kept t (extend x h o) = rw o
       (by-cases (extends M sized map fits (e .proc) by s right (e .a) h)
       (λ y. serves-by M p page q s _ (ap (λ (u : State). u .shadow) y) sv)

@@ -6,7 +6,7 @@ use Rattle.rules.specs.declared.Event.{Event}
 use Rattle.rules.specs.History.{eventAt}
 use Rattle.tables.specs.State.{State}
 use Rattle.shadow.specs.After.{Result, callRefusal, after}
-use Rattle.keeps.proofs.Events.{Kind, store, invlpg, cr3, access, begin, extend, loss, kinds}
+use Rattle.keeps.proofs.Events.{Kind, store, invlpg, cr3, access, begin, extend, drop, kinds}
 use Rattle.keeps.proofs.Theorems.{right-after, words-after}
 use Rattle.promise.specs.Demand.{Fresh}
 use Rattle.promise.proofs.Holds.{Holds}
@@ -23,7 +23,7 @@ module _ (F : Fresh) (es : List Event) (k : ℕ) (s : State) (h : Holds F es k s
   by-kind (access q b o) = rw o (accessed F es k s h ok q)
   by-kind (begin q b o) = rw o (begun F es k s h ok q b)
   by-kind (extend q b o) = rw o (extended F es k s h ok q b)
-  by-kind (loss q b o) = rw o (lost F es k s h ok q b)
+  by-kind (drop q b o) = rw o (lost F es k s h ok q b)
 
   pub carried : Holds F es (suc k) (after (F .machine) (F .map) s (eventAt es k) .state)
   carried =

@@ -13,14 +13,14 @@ use Rattle.rules.specs.History.{eventAt, wordsAt, cr3At}
 use Rattle.tables.specs.State.{Machine, Shadow, State, stateOf, slotCount, markOf, pageIn, rootOf, nextEntry, pathTo}
 use Rattle.tables.specs.Steps.{emptySlots}
 use Rattle.tables.proofs.Counts.{by-cases}
-use Rattle.shadow.specs.After.{callRefusal, afterStore, afterInvlpg, afterCr3, afterBegin, afterLoss}
+use Rattle.shadow.specs.After.{callRefusal, afterStore, afterInvlpg, afterCr3, afterBegin, afterDrop}
 use Rattle.shadow.proofs.Accepted.{accepted-own}
 use Rattle.trees.proofs.Trees.{Able, shd}
 use Rattle.trees.proofs.Paths.{less-full}
 use Rattle.trees.proofs.Roots.{root-table, root-owner}
 use Rattle.trees.proofs.Slots.{SameSlot, Room, same-self, with-other, with-mark, emptySlots-other, emptySlots-here, flush-others, flush-here}
 use Rattle.keeps.proofs.Alikes.{Same, same-refl, same-trans, same-store}
-use Rattle.keeps.proofs.Right.{Mapped, Right, room}
+use Rattle.keeps.proofs.RightStates.{Mapped, RightState, room}
 use Rattle.keeps.proofs.Takes.{Takes, invlpg-takes, cr3-takes, cr3-root}
 use Rattle.keeps.proofs.Events.{accepted-mapped, accepted-able}
 use Rattle.promise.specs.Demand.{Fresh}
@@ -50,7 +50,7 @@ module _ (F : Fresh) (es : List Event) (k : ℕ) (s : State) (h : Holds F es k s
   hp = accepted-own M map s e ok
 
   abbrev pub After : State → Type 0
-  After s′ = Right M map s′ → length (s′ .words) ≡ frameWords * M .frames → Holds F es (suc k) s′
+  After s′ = RightState M map s′ → length (s′ .words) ≡ frameWords * M .frames → Holds F es (suc k) s′
 
   -- ---- events that leave the tables alone
 
@@ -115,10 +115,10 @@ module _ (F : Fresh) (es : List Event) (k : ℕ) (s : State) (h : Holds F es k s
       (λ r j hj ne. with-other p (e .b) (M .tables .levels + 1) v (rootOf M p) 7 (s .slots) r j hb hj ne)
       (no-slot F es (λ x. omega (arith, h .laid .upper, with-mark p (e .b) (M .tables .levels + 1) v (rootOf M p) 7 (s .slots) hb here)))
 
-  pub lost : e .kind ≡ 7 → e .a < 8 → After (afterLoss p (e .a) s .state)
-  unfolding afterLoss
+  pub lost : e .kind ≡ 7 → e .a < 8 → After (afterDrop p (e .a) s .state)
+  unfolding afterDrop
   lost q ha =
-      one-slot (λ x. omega arith) (λ x. omega arith) (λ x. omega arith) (afterLoss p (e .a) s .state) refl refl (e .a)
+      one-slot (λ x. omega arith) (λ x. omega arith) (λ x. omega arith) (afterDrop p (e .a) s .state) refl refl (e .a)
       (λ r j hj ne. with-other p (e .a) 0 0 0 0 (s .slots) r j ha hj ne)
       (no-slot F es (λ x. omega (arith, with-mark p (e .a) 0 0 0 0 (s .slots) ha here)))
 

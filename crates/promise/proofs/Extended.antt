@@ -21,7 +21,7 @@ use Rattle.shadow.proofs.Accepted.{accepted-map}
 use Rattle.trees.proofs.Trees.{Able}
 use Rattle.trees.proofs.Slots.{Room, with-other, with-mark, with-page, with-place, with-rights}
 use Rattle.keeps.proofs.Alikes.{same-refl}
-use Rattle.keeps.proofs.Right.{Mapped}
+use Rattle.keeps.proofs.RightStates.{Mapped}
 use Rattle.keeps.proofs.Moves.{paged, Moves, extends, place-complete}
 use Rattle.promise.specs.Demand.{Fresh}
 use Rattle.promise.proofs.Settles.{Backed}

@@ -9,26 +9,26 @@ use Rattle.paging.specs.declared.Guest.{Guest}
 use Rattle.paging.specs.declared.Walk.{Walk}
 use Rattle.paging.specs.declared.Step.{Step}
 use Rattle.paging.specs.declared.Step.the-variants.{On, Absent, Beyond, Complete}
-use Rattle.paging.specs.Layout.{Layout, get, put, index, markA}
+use Rattle.paging.specs.Layout.{Layout, get, put, index, withA}
 use Rattle.paging.specs.Walk.{step}
 use Rattle.paging.proofs.Layouts.{Sound}
 use Rattle.paging.proofs.Indices.{index-small}
 use Rattle.rules.specs.View.{View}
-use Rattle.rules.proofs.Lawful.{Lawful}
+use Rattle.rules.proofs.Views.{Coherent}
 use Rattle.rules.proofs.Steps.{Kept, extend}
 use Rattle.tables.specs.declared.Walked.{Walked}
 use Rattle.tables.specs.declared.Walked.the-variants.{Whole, Fault}
-use Rattle.tables.specs.Steps.{Trod, byStep, walkFrom}
-use Rattle.keeps.proofs.Alikes.{Same, same-trans, same-mark, same-step}
+use Rattle.tables.specs.Steps.{GuestWalk, byStep, walkFrom}
+use Rattle.keeps.proofs.Alikes.{Same, same-trans, same-with-bit, same-step}
 
-module _ (Y : Layout) (sound : Sound Y) (seen : View) (G page k : ℕ) (rules : List ℕ) (law : Lawful seen (Y .levels) G)
+module _ (Y : Layout) (sound : Sound Y) (seen : View) (G page k : ℕ) (rules : List ℕ) (law : Coherent seen (Y .levels) G)
     (reads : (w : Walk) → seen .steps k w ≡ step Y G w (get Y rules (w .frame .0) (index Y page (w .level)))) where
   pub data Ends : Walked → Type 0 where
     whole : {last : Guest} {w : Walk} → Kept seen k w → w .level ≡ 0 → Ends (Whole last w)
     absent : {w : Walk} {c : ℕ} → c ≡ 0 → Kept seen k w → seen .steps k w ≡ Absent → Ends (Fault c)
     beyond : {w : Walk} {c : ℕ} → c ≡ 9 → Kept seen k w → seen .steps k w ≡ Beyond → Ends (Fault c)
 
-  pub record Walks (t : Trod) : Type 0 where
+  pub record Walks (t : GuestWalk) : Type 0 where
     pub words : Same Y (t .words) rules
     pub ended : Ends (t .ended)
 
@@ -38,7 +38,7 @@ module _ (Y : Layout) (sound : Sound Y) (seen : View) (G page k : ℕ) (rules : 
   walks zero words last w s h z = record { words = s; ended = whole h z }
   walks (suc n) words last w s h z =
       by (step Y G w e) refl
-      (λ w′ q. walks n (put Y words (w .frame .0) i (markA e)) (w .frame) w′ (same-trans Y (same-mark Y sound 5 (inl refl) words (w .frame .0) i (index-small Y page (w .level))) s)
+      (λ w′ q. walks n (put Y words (w .frame .0) i (withA e)) (w .frame) w′ (same-trans Y (same-with-bit Y sound 5 (inl refl) words (w .frame .0) i (index-small Y page (w .level))) s)
       (extend h (same q)) (omega (arith, law .down k w w′ (same q) .level)))
     where
       i : ℕ
@@ -52,8 +52,8 @@ module _ (Y : Layout) (sound : Sound Y) (seen : View) (G page k : ℕ) (rules : 
       same q = reads w ∙ sym (same-step Y sound s G w (w .frame .0) i (index-small Y page (w .level))) ∙ q
 
       by : (r : Step) → step Y G w e ≡ r
-          → ((w′ : Walk) → step Y G w e ≡ On w′ → Walks (walkFrom Y G page n (put Y words (w .frame .0) i (markA e)) (w .frame) w′))
-          → Walks (byStep words last w (λ w′. walkFrom Y G page n (put Y words (w .frame .0) i (markA e)) (w .frame) w′) r)
+          → ((w′ : Walk) → step Y G w e ≡ On w′ → Walks (walkFrom Y G page n (put Y words (w .frame .0) i (withA e)) (w .frame) w′))
+          → Walks (byStep words last w (λ w′. walkFrom Y G page n (put Y words (w .frame .0) i (withA e)) (w .frame) w′) r)
       by (On w′) q ih = ih w′ q
       by Absent q ih = record { words = s; ended = absent refl h (same q) }
       by Beyond q ih = record { words = s; ended = beyond refl h (same q) }

@@ -22,7 +22,7 @@ use Rattle.trees.proofs.Paths.{FullSame}
 use Rattle.trees.proofs.Slots.{SameSlot}
 use Rattle.trees.proofs.SlotRules.{same-place, same-rights}
 use Rattle.keeps.proofs.Alikes.{Same}
-use Rattle.keeps.proofs.Right.{Right}
+use Rattle.keeps.proofs.RightStates.{RightState}
 use Rattle.promise.specs.Demand.{Fresh, guestOf}
 use Rattle.promise.proofs.Settles.{Backed}
 
@@ -59,7 +59,7 @@ module _ (F : Fresh) (es : List Event) where
 
   pub record Holds (k : ℕ) (s : State) : Type 0 where
     pub laid : Laid (M .tables)
-    pub right : Right M (F .map) s
+    pub right : RightState M (F .map) s
     pub size : length (s .words) ≡ frameWords * M .frames
     pub words : Same (M .tables) (s .words) (wordsAt U es k)
     pub roots : (p : ℕ) → p < M .processors → shd M (s .shadow) (rootOf M p) ≡ cr3At U es p k .0

@@ -8,7 +8,7 @@ pub mod Accessed
 pub mod Carried
 pub mod Losing
 pub mod Begun
-pub mod Runs
+pub mod Started
 pub mod Sound
 pub mod Between
 pub mod Theorems

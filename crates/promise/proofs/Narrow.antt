@@ -8,7 +8,7 @@ use native.Mathlib.Omega.{arith}
 use lib.ListN.{length, set, replicate}
 use Rattle.paging.specs.Numbers.{all, each, tab, firstFrom, sum}
 use Rattle.paging.specs.Frame.{mapFits, cr3sFit}
-use Rattle.paging.specs.Layout.{get, put, index, pageOf, frameOf, rightsOf, compose, isPresent, mark}
+use Rattle.paging.specs.Layout.{get, put, index, pageOf, frameOf, rightsOf, compose, isPresent, withBit}
 use Rattle.paging.specs.Walk.{meet, step}
 use Rattle.paging.specs.Request.{requestOf, enough}
 use Rattle.paging.proofs.Narrow.{tables32}
@@ -23,7 +23,7 @@ use Rattle.trees.proofs.Entries.{laid32}
 use Rattle.promise.specs.Demand.{Accepts, Demand, losing, answerAt, SettlesInTwo}
 use Rattle.promise.specs.Known.{KnownRun, runOf}
 use Rattle.promise.proofs.Quick.{quickAt, quickAnswer}
-use Rattle.promise.proofs.Known.{runFits, known-sized, known-fits, known-answers}
+use Rattle.promise.proofs.Known.{runFits, known-fits, known-fits, known-answers}
 use Rattle.promise.proofs.Theorems.{every-event-taken, demand-three}
 
 pub every-event-taken-32 : Accepts tables32
@@ -58,7 +58,7 @@ unfolding runFits halves setupRefusal refusal eventRefusal all rangesFit lengths
 halves-fits = refl
 
 halves-quick : tab (length (halves .events)) (quickAnswer halves) ≡ halves .answers
-unfolding tab halves quickAt moved losing each afterAccess afterMiss afterInvlpg fill settle build freeTable named get put index pageOf frameOf rightsOf compose isPresent meet descend servingSlot firstFrom flush flushed walkFrom step requestOf enough dirtied leafOf leafCleared freeCount taken sum mark rooted
+unfolding tab halves quickAt moved losing each afterAccess afterMiss afterInvlpg fill settle build freeTable named get put index pageOf frameOf rightsOf compose isPresent meet descend servingSlot firstFrom flush flushed walkFrom step requestOf enough dirtied leafOf leafCleared freeCount taken sum withBit rooted
 halves-quick = refl
 
 pub halves-answers : tab (length (halves .events)) (answerAt (halves .machine) (runOf halves)) ≡ halves .answers
@@ -67,4 +67,4 @@ halves-answers = known-answers halves halves-fits laid32 halves-quick
 
 pub halves-settles : SettlesInTwo (halves .machine) (runOf halves) 0
 unfolding halves
-halves-settles = demand-three-32 (halves .machine) refl (known-sized halves halves-fits) (runOf halves) (known-fits halves halves-fits) 0 (omega arith) tt
+halves-settles = demand-three-32 (halves .machine) refl (known-fits halves halves-fits) (runOf halves) (known-fits halves halves-fits) 0 (omega arith) tt

@@ -4,7 +4,7 @@ use mathlib.Core.Bool.{false}
 use Prim.Native.Nat.{ℕ, zero, suc}
 use lib.ListN.{length}
 use Rattle.paging.specs.Numbers.{each, tab, firstFrom, sum}
-use Rattle.paging.specs.Layout.{get, put, index, pageOf, frameOf, rightsOf, compose, isPresent, mark}
+use Rattle.paging.specs.Layout.{get, put, index, pageOf, frameOf, rightsOf, compose, isPresent, withBit}
 use Rattle.paging.specs.Walk.{meet, step}
 use Rattle.paging.specs.Request.{requestOf, enough}
 use Rattle.rules.specs.History.{eventAt}
@@ -32,9 +32,9 @@ module _ (n : KnownRun) where
   quickAnswer k = quickly k (losing (F .machine) (λ p j. false) (quickAt k)) .answer
 
 pub stored-quick : tab (length (stored .events)) (quickAnswer stored) ≡ stored .answers
-unfolding tab stored quickAt moved losing each afterAccess afterMiss afterInvlpg fill settle build named get put index pageOf frameOf rightsOf compose isPresent meet descend servingSlot firstFrom flush flushed walkFrom step requestOf enough dirtied leafOf leafCleared freeCount taken sum mark rooted
+unfolding tab stored quickAt moved losing each afterAccess afterMiss afterInvlpg fill settle build named get put index pageOf frameOf rightsOf compose isPresent meet descend servingSlot firstFrom flush flushed walkFrom step requestOf enough dirtied leafOf leafCleared freeCount taken sum withBit rooted
 stored-quick = refl
 
 pub narrowed-quick : tab (length (narrowed .events)) (quickAnswer narrowed) ≡ narrowed .answers
-unfolding tab narrowed quickAt moved losing each afterAccess afterMiss afterInvlpg fill settle build freeTable named get put index pageOf frameOf rightsOf compose isPresent meet descend servingSlot firstFrom flush flushed walkFrom step requestOf enough dirtied leafOf leafCleared freeCount taken sum mark rooted
+unfolding tab narrowed quickAt moved losing each afterAccess afterMiss afterInvlpg fill settle build freeTable named get put index pageOf frameOf rightsOf compose isPresent meet descend servingSlot firstFrom flush flushed walkFrom step requestOf enough dirtied leafOf leafCleared freeCount taken sum withBit rooted
 narrowed-quick = refl

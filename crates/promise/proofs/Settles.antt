@@ -14,7 +14,7 @@ use Rattle.rules.specs.declared.Outcome.the-variants.{Address, Fault}
 use Rattle.rules.specs.View.{View}
 use Rattle.rules.specs.Outcome.{given, Permitted}
 use Rattle.rules.proofs.Order.{Mem}
-use Rattle.rules.proofs.Lawful.{Lawful}
+use Rattle.rules.proofs.Views.{Coherent}
 use Rattle.rules.proofs.Steps.{Kept, held-is-kept}
 
 -- a held completed walk to a frame, with at least these rights
@@ -25,7 +25,7 @@ pub record Backed (seen : View) (k : ℕ) (g : Guest) (rights : ℕ) : Type 0 wh
   pub frame : walk .frame ≡ g
   pub covers : (q : Request) → q .needs < 8 → enough q rights ≡ true → enough q (walk .rights) ≡ true
 
-module _ (seen : View) {L G : ℕ} (law : Lawful seen L G) (q : Request) (k : ℕ) where
+module _ (seen : View) {L G : ℕ} (law : Coherent seen L G) (q : Request) (k : ℕ) where
   permit : (w : Walk) (s : Step) (o : Outcome) → Kept seen k w → seen .steps k w ≡ s → Mem o (given q w s) → Permitted seen q k o
   permit w s o h e m = record { walk = w; held = held-is-kept seen law k w .1 h; gives = rw e m }
 

@@ -18,7 +18,7 @@ use Rattle.rules.specs.declared.Outcome.{Outcome}
 use Rattle.rules.specs.History.{Fit, eventAt}
 use Rattle.rules.specs.View.{View}
 use Rattle.rules.specs.Outcome.{Permitted}
-use Rattle.rules.proofs.Lawful.{Lawful}
+use Rattle.rules.proofs.Views.{Coherent}
 use Rattle.rules.proofs.Theorems.{a-list}
 use Rattle.tables.specs.declared.Walked.{Walked}
 use Rattle.tables.specs.declared.Walked.the-variants.{Fault}
@@ -32,16 +32,16 @@ use Rattle.trees.proofs.Trees.{Laid}
 use Rattle.trees.proofs.SlotRules.{right-complete}
 use Rattle.keeps.proofs.Moves.{page-small}
 use Rattle.keeps.proofs.Accesses.{Way, slot, shadow, fault as faulted, lacks, again, ways}
-use Rattle.keeps.proofs.Events.{Kind, store, invlpg, cr3, access, begin, extend, loss, kinds}
+use Rattle.keeps.proofs.Events.{Kind, store, invlpg, cr3, access, begin, extend, drop, kinds}
 use Rattle.promise.specs.Demand as D
 use Rattle.promise.specs.Demand.{Fresh, Run, guestOf, does, before, answerAt, questionAt, Says, place, code, Settles}
 use Rattle.promise.proofs.Settles.{Backed, address-permitted, absent-permitted, beyond-permitted, lacking-permitted}
 use Rattle.promise.proofs.GuestWalks.{Ends, whole, absent, beyond}
 use Rattle.promise.proofs.Holds.{seen, Holds}
 use Rattle.promise.proofs.Accessed.{law, reads, rules, walk-ends, walk-held}
-use Rattle.promise.proofs.Runs.{holds-before, accepted}
+use Rattle.promise.proofs.Started.{holds-before, accepted}
 
-module _ (F : Fresh) (laid : Laid (F .machine .tables)) (fresh : D.Sized F) (r : Run) (fit : Fit (guestOf F) (r .events)) (k : ℕ) (hk : k < length (r .events)) where
+module _ (F : Fresh) (laid : Laid (F .machine .tables)) (fresh : D.SetupFits F) (r : Run) (fit : Fit (guestOf F) (r .events)) (k : ℕ) (hk : k < length (r .events)) where
   abbrev M : Machine
   M = F .machine
 
@@ -70,7 +70,7 @@ module _ (F : Fresh) (laid : Laid (F .machine .tables)) (fresh : D.Sized F) (r :
   abbrev view : View
   view = seen F (r .events) p v
 
-  abbrev lawful : Lawful view (M .tables .levels) (M .frames)
+  abbrev lawful : Coherent view (M .tables .levels) (M .frames)
   lawful = law F (r .events) k s h p hp (e .a) (e .b)
 
   answer-of : {out : Result} → does F r k s ≡ out → answerAt F r k ≡ out .answer
@@ -139,4 +139,4 @@ module _ (F : Fresh) (laid : Laid (F .machine .tables)) (fresh : D.Sized F) (r :
       go (cr3 x hb o) = absurd (omega arith)
       go (begin x hb o) = absurd (omega arith)
       go (extend x hb o) = absurd (omega arith)
-      go (loss x hb o) = absurd (omega arith)
+      go (drop x hb o) = absurd (omega arith)

@@ -20,7 +20,7 @@ use Rattle.keeps.proofs.Again.{Serves}
 use Rattle.keeps.proofs.Theorems.{again-serves, served-address, never-refused}
 use Rattle.promise.specs.Demand as D
 use Rattle.promise.specs.Demand.{Fresh, Run, guestOf, stateAt, before, answerAt, Settles, mayStandBetween, Accepts, Demand, losing}
-use Rattle.promise.proofs.Runs.{accepted}
+use Rattle.promise.proofs.Started.{accepted}
 use Rattle.promise.proofs.Sound.{sound}
 use Rattle.promise.proofs.Between.{serves-by, serves-still}
 
@@ -28,7 +28,7 @@ use Rattle.promise.proofs.Between.{serves-by, serves-still}
 pub every-event-taken : (Y : Layout) → Laid Y → Accepts Y
 every-event-taken Y laid F same fresh r fit k hk n refused = never-refused (F .machine) (F .map) (before F r k) (eventAt (r .events) k) (accepted F (subst Laid (sym same) laid) fresh r fit k hk) n refused
 
-module _ (F : Fresh) (laid : Laid (F .machine .tables)) (fresh : D.Sized F) (r : Run) (fit : Fit (guestOf F) (r .events)) (k : ℕ) (hk : k < length (r .events)) where
+module _ (F : Fresh) (laid : Laid (F .machine .tables)) (fresh : D.SetupFits F) (r : Run) (fit : Fit (guestOf F) (r .events)) (k : ℕ) (hk : k < length (r .events)) where
   abbrev e : Event
   e = eventAt (r .events) k
 

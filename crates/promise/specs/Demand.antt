@@ -34,7 +34,7 @@ abbrev pub begun : Fresh → State
 begun F = started (F .machine) (F .cr3s) (F .words)
 
 -- within the ranges of refusals 1, 2 and 7
-pub record Sized (F : Fresh) : Type 0 where
+pub record SetupFits (F : Fresh) : Type 0 where
   pub setup : setupRefusal (F .machine) (F .map) (F .cr3s) (begun F) ≡ 0
   pub words : length (F .words) ≡ frameWords * F .machine .frames
 
@@ -111,8 +111,8 @@ module _ (F : Fresh) (r : Run) where
 -- EVERY EVENT THAT FITS IS TAKEN: acceptance is about ranges, never about the machine's own answers. Here and in demand 3
 -- for all machines with tables of one layout.
 abbrev pub Accepts : Layout → Type 0
-Accepts Y = (F : Fresh) → F .machine .tables ≡ Y → Sized F → (r : Run) → Fit (guestOf F) (r .events) → (k : ℕ) → k < length (r .events) → (n : ℕ) → answerAt F r k ≡ Refused n → ⊥
+Accepts Y = (F : Fresh) → F .machine .tables ≡ Y → SetupFits F → (r : Run) → Fit (guestOf F) (r .events) → (k : ℕ) → k < length (r .events) → (n : ℕ) → answerAt F r k ≡ Refused n → ⊥
 
 -- DEMAND 3
 abbrev pub Demand : Layout → Type 0
-Demand Y = (F : Fresh) → F .machine .tables ≡ Y → Sized F → (r : Run) → Fit (guestOf F) (r .events) → (k : ℕ) → k < length (r .events) → T (isAccess (eventAt (r .events) k)) → SettlesInTwo F r k
+Demand Y = (F : Fresh) → F .machine .tables ≡ Y → SetupFits F → (r : Run) → Fit (guestOf F) (r .events) → (k : ℕ) → k < length (r .events) → T (isAccess (eventAt (r .events) k)) → SettlesInTwo F r k

@@ -25,7 +25,7 @@ abbrev pub fronts : Puzzle → ℕ → ℕ → ℕ → ℕ → ℕ → Puzzle
 fronts b i j k l m = lists (take i (b .map)) (take j (b .cr3s)) (take k (b .pairs)) (take l (b .events)) (take m (b .questions))
 
 -- as many elements as the longest sections have numbers
-pub record Sized (b : Puzzle) : Type 0 where
+pub record LongEnough (b : Puzzle) : Type 0 where
   pub map : length (b .map) ≡ 16
   pub cr3s : length (b .cr3s) ≡ 4
   pub pairs : length (b .pairs) ≡ 16384

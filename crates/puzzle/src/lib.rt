@@ -9,7 +9,7 @@ ghost use lib.ListN.{length, take, replicate};
 ghost use Rattle.cursor.specs.Text.{Stands};
 ghost use Rattle.sections.specs.Sections.{puzzleOf};
 ghost use Rattle.puzzle.specs.Buffers.{buffers, after, withPairs, laid, verdictOf, answer, readCall};
-ghost use Rattle.puzzle.specs.Parts.{lists, Sized, EndIs, SectionsAre, WordsBelow, Lengths, accepts};
+ghost use Rattle.puzzle.specs.Parts.{lists, LongEnough, EndIs, SectionsAre, WordsBelow, Lengths, accepts};
 
 // The count of each section, or a refusal number and its line.
 pub enum ReadResult {
@@ -44,7 +44,7 @@ fn read_sections(
     events: &mut [u64],
     questions: &mut [u64],
 ) -> ReadResult
-    requires { ⌜ Sized (lists (now map) (now cr3s) (now pairs) (now events) (now questions)) ⌝ }
+    requires { ⌜ LongEnough (lists (now map) (now cr3s) (now pairs) (now events) (now questions)) ⌝ }
     ensures { λ r. ⌜ SectionsAre (now (text .entry)) (lists (now (map .entry)) (now (cr3s .entry)) (now (pairs .entry)) (now (events .entry)) (now (questions .entry))) (lists (now (map .exit)) (now (cr3s .exit)) (now (pairs .exit)) (now (events .exit)) (now (questions .exit))) r ⌝ }
 {
     let start = Cursor { at: 0, line: 1 };

@@ -9,24 +9,24 @@ use Rattle.paging.proofs.Layouts.{tables64-sound}
 use Rattle.rules.specs.declared.Outcome.{Outcome}
 use Rattle.rules.specs.History.{wordsAt, cr3At}
 use Rattle.rules.specs.View.{viewOf}
-use Rattle.rules.specs.Known.{Puzzle, filled, setupOf, Solved, AllSolved, starred, sides}
+use Rattle.rules.specs.Known.{Puzzle, filled, knownSetup, Solved, AllSolved, starred, sides}
 use Rattle.rules.proofs.Order.{keep}
-use Rattle.rules.proofs.Lawful.{lawful}
+use Rattle.rules.proofs.Views.{coherent}
 use Rattle.rules.proofs.Walks.{some, add, chain, closed, walksAt}
 use Rattle.rules.proofs.Lists.{insert, insertAll, outcomes, answers, answers-right}
 
 -- the list of a puzzle, computed
 unfoldable computed : Puzzle → List Outcome
 computed z =
-    answers (viewOf (setupOf z) (z .events) (z .question .proc) (pageOf tables64 (z .question .addr))) 4
+    answers (viewOf (knownSetup z) (z .events) (z .question .proc) (pageOf tables64 (z .question .addr))) 4
     (requestOf tables64 (z .question .request)) (length (z .events))
 
 solved : (z : Puzzle) → computed z ≡ z .outcomes → Solved z
 unfolding computed
 solved z e =
     rw (← e)
-    (answers-right (viewOf (setupOf z) (z .events) (z .question .proc) (pageOf tables64 (z .question .addr))) 4
-    (requestOf tables64 (z .question .request)) (lawful (setupOf z) (z .events) (z .question .proc) _ tables64-sound) (length (z .events)))
+    (answers-right (viewOf (knownSetup z) (z .events) (z .question .proc) (pageOf tables64 (z .question .addr))) 4
+    (requestOf tables64 (z .question .request)) (coherent (knownSetup z) (z .events) (z .question .proc) _ tables64-sound) (length (z .events)))
 
 abbrev AllComputed : List Puzzle → Type 0
 AllComputed [] = Unit {0}

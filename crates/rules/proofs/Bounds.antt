@@ -15,9 +15,9 @@ use Rattle.paging.specs.Request.{enough}
 use Rattle.rules.specs.declared.Outcome.{Outcome}
 use Rattle.rules.specs.declared.Outcome.the-variants.{Address, Fault}
 use Rattle.rules.specs.View.{View}
-use Rattle.rules.specs.Outcome.{given, Permitted, Before, Rises, Right}
+use Rattle.rules.specs.Outcome.{given, Permitted, Before, Rises, RightList}
 use Rattle.rules.proofs.Order.{Mem}
-use Rattle.rules.proofs.Lawful.{Lawful, Rooted}
+use Rattle.rules.proofs.Views.{Coherent, Rooted}
 use Rattle.rules.proofs.Steps.{held-is-kept, kept-inside}
 
 -- an outcome's place among the frames 0 to G - 1 and the codes a, 1 + a, 9 + a
@@ -66,7 +66,7 @@ module _ {G a : ℕ} where
       let (r, k) = all x (List·Memᴰ·head refl) in
       omega (arith, short x xs r k (λ z m. all z (List·Memᴰ·tail m)) up)
 
-module _ (seen : View) (q : Request) {L G : ℕ} (law : Lawful seen L G) (root : Rooted seen G) where
+module _ (seen : View) (q : Request) {L G : ℕ} (law : Coherent seen L G) (root : Rooted seen G) where
   -- what a walk below G gives has a rank
   ranked : (w : Walk) → w .frame .0 < G → (s : Step) (o : Outcome) → Mem o (given q w s) → (r : ℕ) × Rank G (q .adds) o r
   ranked w h (On w′) o m = absurd (List·Memᴰ·not-nil m)
@@ -88,7 +88,7 @@ module _ (seen : View) (q : Request) {L G : ℕ} (law : Lawful seen L G) (root :
       one b (inr k) = absurd (List·Memᴰ·not-nil k)
 
   -- A RIGHT LIST HAS AT MOST G + 3 MEMBERS
-  pub right-length : (n : ℕ) (os : List Outcome) → Right seen q n os → length os ≤ G + 3
+  pub right-length : (n : ℕ) (os : List Outcome) → RightList seen q n os → length os ≤ G + 3
   right-length n os r = all-short os (λ o m. permitted-rank o (r .exact o .0 m)) (r .rises)
     where
       permitted-rank : (o : Outcome) → Permitted seen q n o → (r : ℕ) × Rank G (q .adds) o r

@@ -8,9 +8,9 @@ use Rattle.paging.specs.declared.Walk.{Walk}
 use Rattle.paging.specs.declared.Step.the-variants.{On}
 use Rattle.rules.specs.View.{View, Quiet}
 use Rattle.rules.specs.Held.{Reads, begun, read, Held, complete, partial, Four}
-use Rattle.rules.proofs.Lawful.{Lawful}
+use Rattle.rules.proofs.Views.{Coherent}
 
-module _ (seen : View) {L G : ℕ} (law : Lawful seen L G) where
+module _ (seen : View) {L G : ℕ} (law : Coherent seen L G) where
   level-le : {s t : ℕ} {w : Walk} → Reads seen s t w → w .level ≤ L
   level-le {s} (begun a e) = rw (e, law .top s) (omega arith)
   level-le {t = u} (read {w = w} {w′ = w′} d le e) = omega (arith, law .down u w w′ e .level, level-le d)

@@ -21,9 +21,9 @@ use Rattle.rules.specs.declared.Question.{Question}
 use Rattle.rules.specs.declared.Outcome.{Outcome}
 use Rattle.rules.specs.History.{Setup, isStore, isInvlpg, isCr3Write, isBy, eventAt, wordsAt, cr3At, stored, loaded}
 use Rattle.rules.specs.View.{View, viewOf}
-use Rattle.rules.specs.Outcome.{Permitted, Right, RightAt}
+use Rattle.rules.specs.Outcome.{Permitted, RightList, RightAt}
 use Rattle.rules.proofs.Order.{keep}
-use Rattle.rules.proofs.Lawful.{Lawful, lawful}
+use Rattle.rules.proofs.Views.{Coherent, coherent}
 use Rattle.rules.proofs.Steps.{Kept, begin, extend, stay, ends, byLevel, never, held-is-kept}
 
 module _ (short long : View) (φ : ℕ → ℕ) where
@@ -65,8 +65,8 @@ module _ (short long : View) (φ : ℕ → ℕ) where
     inserted n w = (to, (λ h. from h n refl))
 
     -- AND THE SAME LISTS ARE RIGHT
-    pub inserted-right : {L G : ℕ} → Lawful short L G → Lawful long L G → (q : Request) (n : ℕ) (os : List Outcome)
-        → Right long q n os ↔ Right short q (φ n) os
+    pub inserted-right : {L G : ℕ} → Coherent short L G → Coherent long L G → (q : Request) (n : ℕ) (os : List Outcome)
+        → RightList long q n os ↔ RightList short q (φ n) os
     inserted-right ls ll q n os = (
       (λ r. record { rises = r .rises; exact = λ o. Iff·trans (r .exact o) (same o) }),
       (λ r. record { rises = r .rises; exact = λ o. Iff·trans (r .exact o) (Iff·symm (same o)) }),
@@ -219,4 +219,4 @@ module _ (f : Event → Bool) (only : (e : Event) → f e ≡ false → counts e
         rw (← passed-all es)
         (inserted-right (viewOf U (keep f es) (q .proc) (pageOf (U .tables) (q .addr))) (viewOf U es (q .proc) (pageOf (U .tables) (q .addr)))
         (passed f es) (fewer (q .proc) (pageOf (U .tables) (q .addr)))
-        (lawful U (keep f es) (q .proc) _ ok) (lawful U es (q .proc) _ ok) (requestOf (U .tables) (q .request)) (length es) os)
+        (coherent U (keep f es) (q .proc) _ ok) (coherent U es (q .proc) _ ok) (requestOf (U .tables) (q .request)) (length es) os)

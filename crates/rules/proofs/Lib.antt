@@ -1,7 +1,7 @@
 pub mod Order
 pub mod Refusals
 pub mod Ranges
-pub mod Lawful
+pub mod Views
 pub mod Steps
 pub mod Walks
 pub mod Lists

@@ -15,14 +15,14 @@ use Rattle.paging.proofs.Tests.{true-T, false-T}
 use Rattle.rules.specs.declared.Outcome.{Outcome}
 use Rattle.rules.specs.declared.Outcome.the-variants.{Address, Fault}
 use Rattle.rules.specs.View.{View}
-use Rattle.rules.specs.Outcome.{given, Permitted, Before, Rises, Right}
+use Rattle.rules.specs.Outcome.{given, Permitted, Before, Rises, RightList}
 use Rattle.rules.proofs.Order.{Mem, rises-unique}
-use Rattle.rules.proofs.Lawful.{Lawful}
+use Rattle.rules.proofs.Views.{Coherent}
 use Rattle.rules.proofs.Steps.{Kept, begin, extend, held-is-kept}
 use Rattle.rules.proofs.Walks.{walksAt, walks-held}
 
 -- THERE IS ONE RIGHT LIST
-pub right-unique : (seen : View) (q : Request) (n : ℕ) (os os′ : List Outcome) → Right seen q n os → Right seen q n os′ → os ≡ os′
+pub right-unique : (seen : View) (q : Request) (n : ℕ) (os os′ : List Outcome) → RightList seen q n os → RightList seen q n os′ → os ≡ os′
 right-unique seen q n os os′ a b =
     rises-unique os os′ (a .rises) (b .rises)
     (λ o. ((λ m. b .exact o .1 (a .exact o .0 m)), (λ m. a .exact o .1 (b .exact o .0 m))))
@@ -200,9 +200,9 @@ module _ (seen : View) (L : ℕ) (q : Request) where
       pick (inl e) ih = insertAll-new _ (outcomes n ws) o (rw e at g)
       pick (inr k) ih = insertAll-old _ (outcomes n ws) o (ih k)
 
-  module _ {G : ℕ} (law : Lawful seen L G) where
+  module _ {G : ℕ} (law : Coherent seen L G) where
     -- THE COMPUTED LIST IS RIGHT
-    pub answers-right : (n : ℕ) → Right seen q n (answers n)
+    pub answers-right : (n : ℕ) → RightList seen q n (answers n)
     unfolding answers
     answers-right n = record { rises = outcomes-rise n (walksAt seen L n); exact = λ o. (to o, from o) }
       where
@@ -236,6 +236,6 @@ module _ (seen : View) (L : ℕ) (q : Request) where
         by-step n w h (seen .steps n w) refl (λ w′ e. some-outcome n l w′ (extend h e) (omega (arith, law .down n w w′ e .level)))
 
     -- NO LIST IS EMPTY
-    pub right-some : (n : ℕ) (os : List Outcome) → Right seen q n os → 0 < length os
+    pub right-some : (n : ℕ) (os : List Outcome) → RightList seen q n os → 0 < length os
     right-some n [] r = let (o, p) = some-outcome n L (seen .begins n) (begin refl) (omega (arith, law .top n)) in absurd (List·Memᴰ·not-nil (r .exact o .1 p))
     right-some n (x ∷ os) r = omega arith

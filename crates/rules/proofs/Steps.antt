@@ -10,7 +10,7 @@ use Rattle.paging.specs.declared.Walk.{Walk}
 use Rattle.paging.specs.declared.Step.the-variants.{On}
 use Rattle.rules.specs.View.{View, Quiet}
 use Rattle.rules.specs.Held.{Reads, begun, read, Held, partial, complete}
-use Rattle.rules.proofs.Lawful.{Lawful, Down}
+use Rattle.rules.proofs.Views.{Coherent, Down}
 
 -- level 0 is that of complete walks, the others are those of partial ones
 abbrev pub byLevel : Bool → Bool → ℕ → Bool
@@ -61,7 +61,7 @@ module _ (seen : View) where
   since (begun e _) = omega arith
   since (read d le _) = let h = since d in omega arith
 
-  module _ {L G : ℕ} (law : Lawful seen L G) where
+  module _ {L G : ℕ} (law : Coherent seen L G) where
     going : (k : ℕ) (w w′ : Walk) → seen .steps k w ≡ On w′ → 0 < w .level
     going k w w′ e = omega (arith, law .down k w w′ e .level)
 

@@ -1,5 +1,5 @@
 -- What is proved of the rules, in reading order. Each theorem stands here with its whole statement; the last line names
--- its proof. A view is what one processor and one page see of a history (specs/View); `Lawful` and `Rooted` (Lawful)
+-- its proof. A view is what one processor and one page see of a history (specs/View); `Coherent` and `Rooted` (Views)
 -- hold of every view of a history that fits, by the first two.
 use mathlib.Core.Path.{_≡_}
 use mathlib.Core.Logic.{_↔_}
@@ -20,7 +20,7 @@ use Rattle.rules.specs.Held.{Held, Four}
 use Rattle.rules.specs.Outcome.{RightAt}
 use Rattle.rules.specs.Known.{AllSolved, starred, sides}
 use Rattle.rules.proofs.Order.{keep}
-use Rattle.rules.proofs.Lawful as L
+use Rattle.rules.proofs.Views as L
 use Rattle.rules.proofs.Steps as S
 use Rattle.rules.proofs.Four as F
 use Rattle.rules.proofs.Inert as I
@@ -29,13 +29,13 @@ use Rattle.rules.proofs.Bounds as B
 use Rattle.rules.proofs.Answered as K
 
 module _ (U : Setup) (es : List Event) (p v : ℕ) where
-  pub view-lawful : Sound (U .tables) → L.Lawful (viewOf U es p v) (U .tables .levels) (U .frames)
-  view-lawful = L.lawful U es p v
+  pub view-coherent : Sound (U .tables) → L.Coherent (viewOf U es p v) (U .tables .levels) (U .frames)
+  view-coherent = L.coherent U es p v
 
   pub view-rooted : Fit U es → p < U .processors → L.Rooted (viewOf U es p v) (U .frames)
   view-rooted = L.rooted U es p v
 
-module _ (seen : View) {levels frames : ℕ} (law : L.Lawful seen levels frames) where
+module _ (seen : View) {levels frames : ℕ} (law : L.Coherent seen levels frames) where
   -- "there are moments t4 ≤ t3 ≤ t2 ≤ t1 …": the sentence written out is the rule, of complete walks of four levels
   pub four : levels ≡ 4 → (n : ℕ) (w : Walk) → Four seen n w ↔ ((w .level ≡ 0) × Held seen n w)
   four = F.four seen law
@@ -51,15 +51,15 @@ module _ (U : Setup) (es : List Event) (q : Question) (ok : Sound (U .tables)) w
 
   -- no list is empty
   pub some-outcome : (n : ℕ) (os : List Outcome) → RightAt U es q n os → 0 < length os
-  some-outcome n os r = R.right-some _ (U .tables .levels) _ (view-lawful U es (q .proc) _ ok) n os r
+  some-outcome n os r = R.right-some _ (U .tables .levels) _ (view-coherent U es (q .proc) _ ok) n os r
 
   -- there is a right list
   pub a-list : (n : ℕ) → (os : List Outcome) × RightAt U es q n os
-  a-list n = (_, R.answers-right _ (U .tables .levels) _ (view-lawful U es (q .proc) _ ok) n)
+  a-list n = (_, R.answers-right _ (U .tables .levels) _ (view-coherent U es (q .proc) _ ok) n)
 
   -- of a history that fits, it has at most G + 3 members
   pub at-most : Fit U es → q .proc < U .processors → (n : ℕ) (os : List Outcome) → RightAt U es q n os → length os ≤ U .frames + 3
-  at-most fit h n os r = B.right-length _ _ (view-lawful U es (q .proc) _ ok) (view-rooted U es (q .proc) _ fit h) n os r
+  at-most fit h n os r = B.right-length _ _ (view-coherent U es (q .proc) _ ok) (view-rooted U es (q .proc) _ fit h) n os r
 
 -- events that change nothing can be taken out or put in: `f` keeps all events that count
 pub without-inert : (f : Event → Bool) → ((e : Event) → f e ≡ false → I.counts e ≡ false) → (U : Setup) (es : List Event) → Sound (U .tables)

@@ -12,7 +12,7 @@ use Rattle.paging.specs.declared.Step.the-variants.{On, Absent, Beyond, Complet
 use Rattle.paging.proofs.Tests.{and-l, and-r, or-l, or-r, or-cases}
 use Rattle.rules.specs.View.{View}
 use Rattle.rules.proofs.Order.{Mem, keep, keep-e, keep-i}
-use Rattle.rules.proofs.Lawful.{Lawful}
+use Rattle.rules.proofs.Views.{Coherent}
 use Rattle.rules.proofs.Steps.{Kept, begin, extend, stay, ends, kept-level}
 
 -- ---- a list in which each walk stands once
@@ -147,7 +147,7 @@ module _ (seen : View) where
   led h (here e) = rw e h
   led h (there e d) = led (extend h e) d
 
-  module _ {L G : ℕ} (law : Lawful seen L G) where
+  module _ {L G : ℕ} (law : Coherent seen L G) where
     chain-e : (n l : ℕ) (w x : Walk) → Mem x (chain n l w) → Leads n w x
     unfolding chain
     chain-e n zero w x m = pick (List·Memᴰ·cases-cons m)

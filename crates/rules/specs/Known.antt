@@ -29,8 +29,8 @@ filled [] ws = ws
 filled (x ∷ xs) ws = filled xs (set ws (x .word) (x .value))
 
 -- six frames
-abbrev pub setupOf : Puzzle → Setup
-setupOf z = record {
+abbrev pub knownSetup : Puzzle → Setup
+knownSetup z = record {
   tables = tables64;
   frames = 6;
   processors = length (z .cr3s);
@@ -40,7 +40,7 @@ setupOf z = record {
 
 -- A PUZZLE IS SOLVED: its outcomes are the right list of its question after all its events
 abbrev pub Solved : Puzzle → Type 0
-Solved z = RightAt (setupOf z) (z .events) (z .question) (length (z .events)) (z .outcomes)
+Solved z = RightAt (knownSetup z) (z .events) (z .question) (length (z .events)) (z .outcomes)
 
 abbrev pub AllSolved : List Puzzle → Type 0
 AllSolved [] = Unit {0}

@@ -43,13 +43,13 @@ Rises [] = Unit {0}
 Rises (x ∷ xs) = ((y : Outcome) → List·Memᴰ y xs → Before x y) × Rises xs
 
 -- a list is right if it rises and holds exactly the permitted outcomes
-pub record Right (seen : View) (q : Request) (n : ℕ) (os : List Outcome) : Type 0 where
+pub record RightList (seen : View) (q : Request) (n : ℕ) (os : List Outcome) : Type 0 where
   pub rises : Rises os
   pub exact : (o : Outcome) → List·Memᴰ o os ↔ Permitted seen q n o
 
 -- the list of a question at moment n
 abbrev pub RightAt : Setup → List Event → Question → ℕ → List Outcome → Type 0
-RightAt U es q n os = Right (viewOf U es (q .proc) (pageOf (U .tables) (q .addr))) (requestOf (U .tables) (q .request)) n os
+RightAt U es q n os = RightList (viewOf U es (q .proc) (pageOf (U .tables) (q .addr))) (requestOf (U .tables) (q .request)) n os
 
 -- a question is tested as the access that it asks about
 abbrev pub questionRefusal : Setup → Question → ℕ

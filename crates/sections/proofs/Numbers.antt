@@ -12,7 +12,7 @@ use lib.Seq.{take-suc-set, drop-set-lt}
 use Rattle.cursor.specs.declared.Cursor.{Cursor}
 use Rattle.cursor.specs.declared.Next.the-variants.{Number, Bad}
 use Rattle.cursor.specs.Text.{Stands, lineAt, pastBlanks, nextAt}
-use Rattle.cursor.proofs.Runs.{next-stands, next-line, bad-line}
+use Rattle.cursor.proofs.DigitRuns.{next-stands, next-line, bad-line}
 use Rattle.paging.proofs.Numbers.{between}
 use Rattle.sections.specs.declared.Section.{Section}
 use Rattle.sections.specs.declared.Section.the-variants.{Map, Cr3s, Words, Events, Questions}

@@ -254,7 +254,7 @@ module _ (M : Machine) (map : List ℕ) (s : State) (e : Event) where
       pub requests : e .kind ≡ 4 → e .b < 6
       pub begins : e .kind ≡ 5 → e .b < 8
       pub extends : e .kind ≡ 6 → e .a < 8
-      pub loses : e .kind ≡ 7 → e .a < 8
+      pub drops : e .kind ≡ 7 → e .a < 8
 
     pub accepted-numbers : Numbers
     accepted-numbers =
@@ -268,7 +268,7 @@ module _ (M : Machine) (map : List ℕ) (s : State) (e : Event) where
           requests = λ q. omega (arith, ltb-false 5 (e .b) (no-and (isAccess e) _ (t .1 .1 .0) (eq-eqb (e .kind) 4 q)));
           begins = λ q. omega (arith, ltb-false 7 (e .b) (no-and (isBegin e) _ (slot .0) (eq-eqb (e .kind) 5 q)));
           extends = λ q. omega (arith, ltb-false 7 (e .a) (no-and (isExtend e || isDrop e) _ (slot .1) (ap (λ (b : Bool). b || isDrop e) (eq-eqb (e .kind) 6 q))));
-          loses = λ q. omega (arith, ltb-false 7 (e .a) (no-and (isExtend e || isDrop e) _ (slot .1) (or-true (isExtend e) (isDrop e) (eq-eqb (e .kind) 7 q))));
+          drops = λ q. omega (arith, ltb-false 7 (e .a) (no-and (isExtend e || isDrop e) _ (slot .1) (or-true (isExtend e) (isDrop e) (eq-eqb (e .kind) 7 q))));
         }
 
 -- ---- what the functions ask for
@@ -320,6 +320,6 @@ module _ (z : Sizes) (map : List ℕ) (s : State) (e : Event) (ok : callRefusal 
         requests = n .requests;
         begins = n .begins;
         extends = n .extends;
-        loses = n .loses;
+        drops = n .drops;
         stands = λ k h. standing z accepted-sized (s .shadow .pool) (s .slots) (e .proc) k (accepted-slot (machine64 z) map s e ok k h);
       }

@@ -11,7 +11,7 @@ use Rattle.paging.specs.Frame.{guest}
 use Rattle.paging.specs.Layout.{tables64, index, frameOf}
 use Rattle.tables.specs.declared.Sizes.{Sizes}
 use Rattle.tables.specs.declared.Spot.{Spot}
-use Rattle.tables.specs.State.{Machine, Shadow, shadowOf, State, stateOf, shadows, machine64, tableCount, rootOf, entryOf, named, Spotted}
+use Rattle.tables.specs.State.{Machine, Shadow, shadowOf, State, stateOf, shadows, machine64, tableCount, rootOf, entryOf, named, SpotFits}
 use Rattle.tables.specs.Steps.{Settled, settledAt, spot, cut, guestEntry, agrees, settle, build, freeCount, emptyShare, emptySlots, flush}
 use Rattle.tables.proofs.Names.{frame-small}
 use Rattle.tables.proofs.Fills.{agrees-named}
@@ -59,7 +59,7 @@ module _ (M : Machine) (map : List ℕ) (p page : ℕ) (s : State) where
 
 -- where settling stops, a table stands
 pub settled-spot : (z : Sizes) (words : List ℕ) (page n t : ℕ) (g : Guest) (s : Shadow) → n ≤ 3 → t < tableCount (machine64 z) → g .0 < 2 ^ 40
-    → Spotted z (settle (machine64 z) words page n t g s .spot)
+    → SpotFits z (settle (machine64 z) words page n t g s .spot)
 unfolding settle
 settled-spot z words page zero t g s hn ht hg = record { missing = hn; table = ht; frame = hg }
 settled-spot z words page (suc n) t g s hn ht hg =
@@ -76,8 +76,8 @@ settled-spot z words page (suc n) t g s hn ht hg =
 
     go : (b : Bool) → agrees (machine64 z) (s .records) (entryOf (machine64 z) (s .pool) t (index tables64 page (n + 2))) (guestEntry tables64 words page (n + 2) g) ≡ b
         → (agrees (machine64 z) (s .records) (entryOf (machine64 z) (s .pool) t (index tables64 page (n + 2))) (guestEntry tables64 words page (n + 2) g) ≡ true
-        → Spotted z (settle (machine64 z) words page n (named (machine64 z) (entryOf (machine64 z) (s .pool) t (index tables64 page (n + 2)))) (guest (frameOf tables64 (guestEntry tables64 words page (n + 2) g))) s .spot))
-        → Spotted z (cond b
+        → SpotFits z (settle (machine64 z) words page n (named (machine64 z) (entryOf (machine64 z) (s .pool) t (index tables64 page (n + 2)))) (guest (frameOf tables64 (guestEntry tables64 words page (n + 2) g))) s .spot))
+        → SpotFits z (cond b
         (settle (machine64 z) words page n (named (machine64 z) (entryOf (machine64 z) (s .pool) t (index tables64 page (n + 2)))) (guest (frameOf tables64 (guestEntry tables64 words page (n + 2) g))) s)
         (settledAt (spot (suc n) t g) (cut (machine64 z) (suc n) t (index tables64 page (n + 2)) s)) .spot)
     go true q on = on q

@@ -8,7 +8,7 @@ use lib.Dec.{eqb}
 use borrow.Author.Tests.{ne-eqb}
 use Rattle.rules.specs.declared.Event.{Event}
 use Rattle.tables.specs.State.{Machine, State}
-use Rattle.shadow.specs.After.{Result, Move, store, invlpg, writeCr3, access, begin, extend, lose, decode, moved, afterStore, afterInvlpg, afterCr3, afterAccess, afterBegin, afterExtend, afterLoss}
+use Rattle.shadow.specs.After.{Result, Move, store, invlpg, writeCr3, access, begin, extend, drop, decode, moved, afterStore, afterInvlpg, afterCr3, afterAccess, afterBegin, afterExtend, afterDrop}
 
 abbrev byKind : ℕ → ℕ → ℕ → Move
 byKind k a b =
@@ -17,7 +17,7 @@ byKind k a b =
     (cond (eqb k 3) (writeCr3 a)
     (cond (eqb k 4) (access a b)
     (cond (eqb k 5) (begin a b)
-    (cond (eqb k 6) (extend a) (lose a))))))
+    (cond (eqb k 6) (extend a) (drop a))))))
 
 -- none of the first six is the seventh
 pub seventh : (n : ℕ) → (1 ≤ n) × (n ≤ 7) → (n ≡ 1 → ⊥) → (n ≡ 2 → ⊥) → (n ≡ 3 → ⊥) → (n ≡ 4 → ⊥) → (n ≡ 5 → ⊥) → (n ≡ 6 → ⊥) → n ≡ 7
@@ -58,6 +58,6 @@ module _ (M : Machine) (map : List ℕ) (s : State) (e : Event) where
   unfolding moved
   moved-extend q = by 6 q
 
-  pub moved-loss : e .kind ≡ 7 → afterLoss (e .proc) (e .a) s ≡ moved M map (e .proc) (decode e) s
+  pub moved-drop : e .kind ≡ 7 → afterDrop (e .proc) (e .a) s ≡ moved M map (e .proc) (decode e) s
   unfolding moved
-  moved-loss q = by 7 q
+  moved-drop q = by 7 q

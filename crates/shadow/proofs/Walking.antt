@@ -10,7 +10,7 @@ use Rattle.paging.specs.declared.Request.{Request}
 use Rattle.paging.specs.declared.Walk.{Walk}
 use Rattle.paging.specs.declared.Step.{Step}
 use Rattle.paging.specs.declared.Step.the-variants.{On, Absent, Beyond, Complete}
-use Rattle.paging.specs.Layout.{Layout, get, put, index, markA, rightsOf}
+use Rattle.paging.specs.Layout.{Layout, get, put, index, withA, rightsOf}
 use Rattle.paging.specs.Request.{enough}
 use Rattle.paging.specs.Walk.{start, step}
 use Rattle.paging.proofs.Rights.{meet-small}
@@ -18,7 +18,7 @@ use Rattle.paging.proofs.Steps.{Goes, goes}
 use Rattle.tables.specs.declared.Walked.{Walked}
 use Rattle.tables.specs.declared.Walked.the-variants.{Whole, Fault}
 use Rattle.tables.specs.State.{Machine, Shadow, State, stateOf, shadows, rootOf}
-use Rattle.tables.specs.Steps.{Trod, trod, byStep, walkFrom, walkGuest}
+use Rattle.tables.specs.Steps.{GuestWalk, guestWalk, byStep, walkFrom, walkGuest}
 use Rattle.shadow.specs.declared.Answer.the-variants.{Fault as Faulted, Again}
 use Rattle.shadow.specs.After.{Result, gives, dirtied, fill, afterWalk, afterMiss}
 
@@ -33,7 +33,7 @@ module _ (Y : Layout) (G page limit : ℕ) (most : G ≤ limit) where
   walk-range zero words last w hl hf hr = (hl, hr)
   walk-range (suc n) words last w hl hf hr =
       go (step Y G w e) refl (λ w′ q. let g = goes Y G w e w′ q in
-      walk-range n (put Y words (w .frame .0) (index Y page (w .level)) (markA e)) (w .frame) w′ hf
+      walk-range n (put Y words (w .frame .0) (index Y page (w .level)) (withA e)) (w .frame) w′ hf
       (omega (arith, ap (λ (x : Walk). x .frame .0) (g .is), g .inside))
       (omega (arith, ap (λ (x : Walk). x .rights) (g .is), meet-small (w .rights) (rightsOf Y e))))
     where
@@ -42,28 +42,28 @@ module _ (Y : Layout) (G page limit : ℕ) (most : G ≤ limit) where
 
       go : (r : Step) → step Y G w (get Y words (w .frame .0) (index Y page (w .level))) ≡ r
           → ((w′ : Walk) → step Y G w (get Y words (w .frame .0) (index Y page (w .level))) ≡ On w′
-          → InRange limit (walkFrom Y G page n (put Y words (w .frame .0) (index Y page (w .level)) (markA (get Y words (w .frame .0) (index Y page (w .level))))) (w .frame) w′ .ended))
-          → InRange limit (byStep words last w (λ w′. walkFrom Y G page n (put Y words (w .frame .0) (index Y page (w .level)) (markA (get Y words (w .frame .0) (index Y page (w .level))))) (w .frame) w′) r .ended)
+          → InRange limit (walkFrom Y G page n (put Y words (w .frame .0) (index Y page (w .level)) (withA (get Y words (w .frame .0) (index Y page (w .level))))) (w .frame) w′ .ended))
+          → InRange limit (byStep words last w (λ w′. walkFrom Y G page n (put Y words (w .frame .0) (index Y page (w .level)) (withA (get Y words (w .frame .0) (index Y page (w .level))))) (w .frame) w′) r .ended)
       go (On w′) q on = on w′ q
       go Absent q on = omega arith
       go Beyond q on = omega arith
       go Complete q on = (hl, hr)
 
-  pub guest-range : (words : List ℕ) (cr3 : Guest) → cr3 .0 < limit → {words′ : List ℕ} {r : Walked} → trod words′ r ≡ walkGuest Y G page words cr3 → InRange limit r
+  pub guest-range : (words : List ℕ) (cr3 : Guest) → cr3 .0 < limit → {words′ : List ℕ} {r : Walked} → guestWalk words′ r ≡ walkGuest Y G page words cr3 → InRange limit r
   guest-range words cr3 h e =
-      let q = ap (λ (d : Trod). d .ended) e in
+      let q = ap (λ (d : GuestWalk). d .ended) e in
       rw q (walk-range (Y .levels) words cr3 (start Y cr3) h h (omega arith))
 
 module _ (M : Machine) (map : List ℕ) (p page : ℕ) (q : Request) (s : State) where
-  abbrev ends : Trod → Result
+  abbrev ends : GuestWalk → Result
   ends d = afterWalk M map p page q (stateOf (d .words) (s .shadow) (s .slots)) (d .ended)
 
   module _ {root : ℕ} {cr3 : Guest} {words : List ℕ} {r : Walked} (er : root ≡ rootOf M p) (ec : cr3 ≡ shadows (s .shadow .records) root)
-      (ed : trod words r ≡ walkGuest (M .tables) (M .frames) page (s .words) cr3) where
-    spelt : {r′ : Walked} → r ≡ r′ → ends (trod words r′) ≡ afterMiss M map p page q s
+      (ed : guestWalk words r ≡ walkGuest (M .tables) (M .frames) page (s .words) cr3) where
+    spelt : {r′ : Walked} → r ≡ r′ → ends (guestWalk words r′) ≡ afterMiss M map p page q s
     unfolding afterMiss
     spelt same =
-        ap (λ (x : Walked). ends (trod words x)) (sym same)
+        ap (λ (x : Walked). ends (guestWalk words x)) (sym same)
         ∙ ap ends (ed ∙ ap (walkGuest (M .tables) (M .frames) page (s .words)) (ec ∙ ap (shadows (s .shadow .records)) er))
 
     pub miss-fault : {base : ℕ} → r ≡ Fault base → gives (Faulted (base + q .adds)) (stateOf words (s .shadow) (s .slots)) ≡ afterMiss M map p page q s

@@ -10,7 +10,7 @@ use Rattle.paging.specs.declared.Origin.{Origin}
 use Rattle.paging.specs.declared.Origin.the-variants.{Of, Nowhere}
 use Rattle.paging.specs.declared.Request.{Request}
 use Rattle.paging.specs.Frame.{guest, host, hostOf, originOf, mapFits, cr3sFit}
-use Rattle.paging.specs.Layout.{Layout, frameWords, bit, get, put, index, pageOf, frameOf, rightsOf, isPresent, markD}
+use Rattle.paging.specs.Layout.{Layout, frameWords, bit, get, put, index, pageOf, frameOf, rightsOf, isPresent, withD}
 use Rattle.paging.specs.Walk.{meet}
 use Rattle.paging.specs.Request.{requestOf, enough}
 use Rattle.rules.specs.declared.Event.{Event}
@@ -69,7 +69,7 @@ pub data Move : Type 0 where
   access : ℕ → ℕ → Move
   begin : ℕ → ℕ → Move
   extend : ℕ → Move
-  lose : ℕ → Move
+  drop : ℕ → Move
 
 -- "1 store: word a becomes b. 2 INVLPG of address a. 3 CR3 write of frame a. 4 access to a with request b. 5 begin a
 -- walk of a in slot b. 6 extend slot a. 7 drop slot a."
@@ -80,7 +80,7 @@ decode e =
     (cond (isCr3Write e) (writeCr3 (e .a))
     (cond (isAccess e) (access (e .a) (e .b))
     (cond (isBegin e) (begin (e .a) (e .b))
-    (cond (isExtend e) (extend (e .a)) (lose (e .a)))))))
+    (cond (isExtend e) (extend (e .a)) (drop (e .a)))))))
 
 -- a request that needs W is a write
 abbrev pub isWrite : Request → Bool
@@ -104,14 +104,14 @@ abbrev pub afterStore : ℕ → ℕ → State → Result
 afterStore a b s = gives Done (stateOf (set (s .words) a b) (s .shadow) (s .slots))
 
 -- "Drop: emptied, kind 0."
-unfoldable pub afterLoss : ℕ → ℕ → State → Result
-afterLoss p k s = gives Done (stateOf (s .words) (s .shadow) (emptied p k (s .slots)))
+unfoldable pub afterDrop : ℕ → ℕ → State → Result
+afterDrop p k s = gives Done (stateOf (s .words) (s .shadow) (emptied p k (s .slots)))
 
 -- "On success a write also sets D in the last entry": in the word as it is now
 unfoldable pub dirtied : Layout → Request → ℕ → Guest → List ℕ → List ℕ
 dirtied Y q page last words =
     let i = index Y page 1 in
-    cond (isWrite q) (put Y words (last .0) i (markD (get Y words (last .0) i))) words
+    cond (isWrite q) (put Y words (last .0) i (withD (get Y words (last .0) i))) words
 
 module _ (M : Machine) where
   -- "if present entries lead to a level 1 table, its entry becomes 0"
@@ -215,7 +215,7 @@ module _ (M : Machine) where
   moved map p (access a r) s = afterAccess map p a r s
   moved map p (begin a k) s = afterBegin p a k s
   moved map p (extend k) s = afterExtend map p k s
-  moved map p (lose k) s = afterLoss p k s
+  moved map p (drop k) s = afterDrop p k s
 
   -- ---- refusals
 

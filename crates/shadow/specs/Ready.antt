@@ -29,5 +29,5 @@ pub record Fitting (words slots : List ℕ) (e : Event) : Type 0 where
   pub requests : e .kind ≡ 4 → e .b < 6
   pub begins : e .kind ≡ 5 → e .b < 8
   pub extends : e .kind ≡ 6 → e .a < 8
-  pub loses : e .kind ≡ 7 → e .a < 8
+  pub drops : e .kind ≡ 7 → e .a < 8
   pub stands : (k : ℕ) → k < 8 → Standing slots (e .proc) k

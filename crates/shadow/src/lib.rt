@@ -11,7 +11,7 @@ ghost use Rattle.paging.specs.Layout.{tables64, rightsOf, isPresent};
 ghost use Rattle.paging.specs.Request.{enough};
 ghost use Rattle.paging.specs.Walk.{meet};
 ghost use Rattle.tables.specs.State.{Shadow, shadowOf, State, stateOf, machine64, Sized, Room};
-ghost use Rattle.shadow.specs.After.{refusalOf, kindOf, valueOf, gives, afterStore, leafCleared, afterInvlpg, afterCr3, afterBegin, placeBelow, afterExtend, afterLoss, valueAt, dirtied, fill, afterMiss, afterAccess, decode, moved, rangesFit, lengthsFit, poolFits, inPool, framesFit, callRefusal, after, rooted, setupRefusal, afterSetup};
+ghost use Rattle.shadow.specs.After.{refusalOf, kindOf, valueOf, gives, afterStore, leafCleared, afterInvlpg, afterCr3, afterBegin, placeBelow, afterExtend, afterDrop, valueAt, dirtied, fill, afterMiss, afterAccess, decode, moved, rangesFit, lengthsFit, poolFits, inPool, framesFit, callRefusal, after, rooted, setupRefusal, afterSetup};
 ghost use Rattle.shadow.specs.Ready.{Ready, Standing, Fitting};
 use paging::Guest;
 use paging::Host;
@@ -136,9 +136,9 @@ fn begin(slots: &mut [u64], z: Sizes, p: u64, a: u64, k: u64) -> Answer
     Answer::Done
 }
 
-fn lose(slots: &mut [u64], p: u64, k: u64) -> Answer
+fn drop_slot(slots: &mut [u64], p: u64, k: u64) -> Answer
     requires { ⌜ (p < 4) × (24 * p + 24 ≤ length (now slots)) × (k < 8) ⌝ }
-    ensures { λ r. ⌜ ((w : List ℕ) (h : Shadow) → gives r (stateOf w h (now (slots .exit))) ≡ afterLoss p k (stateOf w h (now (slots .entry)))) ⌝ }
+    ensures { λ r. ⌜ ((w : List ℕ) (h : Shadow) → gives r (stateOf w h (now (slots .exit))) ≡ afterDrop p k (stateOf w h (now (slots .entry)))) ⌝ }
 {
     slots::set_slot(slots, p, k, 0, 0, 0, 0);
     Answer::Done
@@ -333,7 +333,7 @@ fn take_step(
         4 => access(map, words, pool, records, slots, z, p, e.a, e.b),
         5 => begin(slots, z, p, e.a, e.b),
         6 => extend(map, pool, slots, z, p, e.a),
-        _ => lose(slots, p, e.a),
+        _ => drop_slot(slots, p, e.a),
     }
 }
 

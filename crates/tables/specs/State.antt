@@ -152,7 +152,7 @@ pub record Room (z : Sizes) (records : List ℕ) : Type 0 where
   pub pairs : length records ≡ 2 * tableCount (machine64 z)
 
 -- a fill stands on one of the tables
-pub record Spotted (z : Sizes) (w : Spot) : Type 0 where
+pub record SpotFits (z : Sizes) (w : Spot) : Type 0 where
   pub missing : w .missing ≤ 3
   pub table : w .table < tableCount (machine64 z)
   pub frame : w .frame .0 < 2 ^ 40

@@ -8,7 +8,7 @@ use Rattle.paging.specs.declared.Walk.{Walk}
 use Rattle.paging.specs.declared.Step.{Step}
 use Rattle.paging.specs.declared.Step.the-variants.{On, Absent, Beyond, Complete}
 use Rattle.paging.specs.Frame.{guest, hostOf}
-use Rattle.paging.specs.Layout.{Layout, bit, get, put, index, frameOf, rightsOf, compose, markA, markD}
+use Rattle.paging.specs.Layout.{Layout, bit, get, put, index, frameOf, rightsOf, compose, withA, withD}
 use Rattle.paging.specs.declared.Request.{Request}
 use Rattle.paging.specs.Request.{enough}
 use Rattle.paging.specs.Walk.{meet, start, step}
@@ -42,19 +42,19 @@ unfoldable pub emptySlots : ℕ → List ℕ → List ℕ
 emptySlots p slots = each slotCount (emptied p) slots
 
 -- the guest's words after a walk of its tables, and how the walk ended
-pub record Trod : Type 0 where
+pub record GuestWalk : Type 0 where
   pub words : List ℕ
   pub ended : Walked
 
-abbrev pub trod : List ℕ → Walked → Trod
-trod w r = record { words = w; ended = r }
+abbrev pub guestWalk : List ℕ → Walked → GuestWalk
+guestWalk w r = record { words = w; ended = r }
 
 -- how a walk ends, or goes on, by what it does at its entry
-abbrev pub byStep : List ℕ → Guest → Walk → (Walk → Trod) → Step → Trod
+abbrev pub byStep : List ℕ → Guest → Walk → (Walk → GuestWalk) → Step → GuestWalk
 byStep words last w on (On w′) = on w′
-byStep words last w on Absent = trod words (Fault 0)
-byStep words last w on Beyond = trod words (Fault 9)
-byStep words last w on Complete = trod words (Whole last w)
+byStep words last w on Absent = guestWalk words (Fault 0)
+byStep words last w on Beyond = guestWalk words (Fault 9)
+byStep words last w on Complete = guestWalk words (Whole last w)
 
 -- what settling leaves: where it stands, and the tables
 pub record Settled : Type 0 where
@@ -71,14 +71,14 @@ settledAt w s = record { spot = w; shadow = s }
 
 module _ (Y : Layout) (G : ℕ) (page : ℕ) where
   -- "Each entry extended from gets A." Here with n entries left to read.
-  unfoldable pub walkFrom : ℕ → List ℕ → Guest → Walk → Trod
-  walkFrom zero words last w = trod words (Whole last w)
+  unfoldable pub walkFrom : ℕ → List ℕ → Guest → Walk → GuestWalk
+  walkFrom zero words last w = guestWalk words (Whole last w)
   walkFrom (suc n) words last w =
       let i = index Y page (w .level) in
       let e = get Y words (w .frame .0) i in
-      byStep words last w (λ w′. walkFrom n (put Y words (w .frame .0) i (markA e)) (w .frame) w′) (step Y G w e)
+      byStep words last w (λ w′. walkFrom n (put Y words (w .frame .0) i (withA e)) (w .frame) w′) (step Y G w e)
 
-  abbrev pub walkGuest : List ℕ → Guest → Trod
+  abbrev pub walkGuest : List ℕ → Guest → GuestWalk
   walkGuest words cr3 = walkFrom (Y .levels) words cr3 (start Y cr3)
 
 -- the guest's entry for a table of level l that shadows frame g

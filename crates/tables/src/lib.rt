@@ -7,8 +7,8 @@ ghost use lib.Dec.{eqb};
 ghost use Rattle.paging.specs.Frame.{hostOf};
 ghost use Rattle.paging.specs.Layout.{tables64, get, put, index, frameOf, rightsOf};
 ghost use Rattle.paging.specs.Walk.{meet, start};
-ghost use Rattle.tables.specs.State.{Sized, Room, Spotted, machine64, shadowOf, levelOf, shadows, withRecord, tableCount, ownerOf, rootOf, owns, named, down, pathTo};
-ghost use Rattle.tables.specs.Steps.{freeTable, cut, zeroed, emptyOwn, emptyShare, mayTake, freeCount, taken, hang, hangNext, leafOf, walkGuest, trod, guestEntry, agrees, settle, settledAt, build};
+ghost use Rattle.tables.specs.State.{Sized, Room, SpotFits, machine64, shadowOf, levelOf, shadows, withRecord, tableCount, ownerOf, rootOf, owns, named, down, pathTo};
+ghost use Rattle.tables.specs.Steps.{freeTable, cut, zeroed, emptyOwn, emptyShare, mayTake, freeCount, taken, hang, hangNext, leafOf, walkGuest, guestWalk, guestEntry, agrees, settle, settledAt, build};
 use paging::Guest;
 use paging::Host;
 use paging::Step;
@@ -291,7 +291,7 @@ pub fn next_free(records: &[u64], z: Sizes, p: u64) -> u64
 // Each entry that the walk extends from gets A.
 pub fn walk_guest(words: &mut [u64], frames: u64, cr3: Guest, page: u64) -> Walked
     requires { ⌜ (frames ≤ 256) × (cr3 .0 < 2 ^ 40) ⌝ }
-    ensures { λ r. ⌜ trod (now (words .exit)) r ≡ walkGuest tables64 frames page (now (words .entry)) cr3 ⌝ }
+    ensures { λ r. ⌜ guestWalk (now (words .exit)) r ≡ walkGuest tables64 frames page (now (words .entry)) cr3 ⌝ }
 {
     let mut last = cr3;
     let mut w = Walk::start(cr3);
@@ -338,7 +338,7 @@ pub fn leaf_of(map: &[u64], e: u64) -> u64
     requires { ⌜ ((i : ℕ) → getD (now map) i 0 < 2 ^ 40) ⌝ }
     ensures { λ r. ⌜ r ≡ leafOf tables64 (now (map .entry)) e ⌝ }
 {
-    let r = shared_rights(paging::rights_of(e), 6 + paging::is_dirty(e));
+    let r = shared_rights(paging::rights_of(e), 6 + paging::d_of(e));
     let h = host_at(map, Guest(paging::frame_of(e)));
     paging::composed(r, r % 2, h.0)
 }
@@ -369,7 +369,7 @@ pub fn settle(
     from: Spot,
 ) -> Spot
     requires { ⌜ Room z (now records) ⌝ }
-    requires { ⌜ Spotted z from ⌝ }
+    requires { ⌜ SpotFits z from ⌝ }
     ensures { λ r. ⌜ settledAt r (shadowOf (now (pool .exit)) (now (records .exit))) ≡ settle (machine64 z) (now (words .entry)) page (from .missing) (from .table) (from .frame) (shadowOf (now (pool .entry)) (now (records .entry))) ⌝ }
 {
     let mut w = from;
@@ -422,7 +422,7 @@ fn hang_next(
     w: Spot,
 ) -> Spot
     requires { ⌜ Room z (now records) ⌝ }
-    requires { ⌜ Spotted z w × (0 < w .missing) × (taken (machine64 z) p (now records) < tableCount (machine64 z)) ⌝ }
+    requires { ⌜ SpotFits z w × (0 < w .missing) × (taken (machine64 z) p (now records) < tableCount (machine64 z)) ⌝ }
     ensures { λ r. ⌜ settledAt r (shadowOf (now (pool .exit)) (now (records .exit))) ≡ hangNext (machine64 z) (now (words .entry)) p page (w .missing - 1) (w .table) (w .frame) (shadowOf (now (pool .entry)) (now (records .entry))) ⌝ }
 {
     let g = w.frame;
@@ -460,7 +460,7 @@ pub fn build_path(
     from: Spot,
 )
     requires { ⌜ Room z (now records) ⌝ }
-    requires { ⌜ Spotted z from × (from .missing ≤ freeCount (machine64 z) p (now records)) ⌝ }
+    requires { ⌜ SpotFits z from × (from .missing ≤ freeCount (machine64 z) p (now records)) ⌝ }
     requires { ⌜ ((i : ℕ) → getD (now map) i 0 < 2 ^ 40) ⌝ }
     ensures { λ _. ⌜ shadowOf (now (pool .exit)) (now (records .exit)) ≡ build (machine64 z) (now (map .entry)) (now (words .entry)) p page (from .missing) (from .table) (from .frame) (shadowOf (now (pool .entry)) (now (records .entry))) ⌝ }
 {

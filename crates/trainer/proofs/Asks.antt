@@ -22,7 +22,7 @@ use Rattle.rules.specs.History.{Setup, setup64}
 use Rattle.rules.specs.View.{viewOf}
 use Rattle.rules.specs.Outcome.{given}
 use Rattle.rules.proofs.Steps.{held-is-kept, kept-inside}
-use Rattle.rules.proofs.Theorems.{view-lawful, view-rooted}
+use Rattle.rules.proofs.Theorems.{view-coherent, view-rooted}
 use Rattle.listing.specs.declared.Listed.{Listed}
 use Rattle.listing.specs.Call.{Asked, Lent, asked, lent, countOf, listRefusal, pairs, ListCall}
 use Rattle.rules.specs.Numbers.{eventsOf}
@@ -85,7 +85,7 @@ module _ (map cr3s start events : List ℕ) (q : Question) (p : Posed map cr3s s
       let n = length events / 4 in
       let v = pageOf tables64 (q .addr) in
       let seen = viewOf U es (q .proc) v in
-      let law = view-lawful U es (q .proc) v tables64-sound in
+      let law = view-coherent U es (q .proc) v tables64-sound in
       let root = view-rooted U es (q .proc) v (accepts.fit a b ok) (ok .proc) in
       let made = r .exact (Address f) .0 m in
       let inside = kept-inside seen law root {n = n} {w = made .walk} (held-is-kept seen law n (made .walk) .0 (made .held)) in

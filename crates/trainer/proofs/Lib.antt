@@ -1,7 +1,7 @@
 pub mod Copies
 pub mod Asks
 pub mod Turns
-pub mod Runs
+pub mod EventLines
 pub mod Puzzles
 pub mod Wholes
 pub mod Theorems

@@ -16,7 +16,7 @@ use Rattle.paging.proofs.Numbers.{between, all-none, all-more}
 use Rattle.rules.specs.declared.Question.{Question}
 use Rattle.rules.specs.History.{eventRefusal}
 use Rattle.rules.specs.Outcome.{questionRefusal}
-use Rattle.listing.specs.Call.{Asked, Lent, asked, lent, setupOf, sizesFit, firstRefusal, listRefusal}
+use Rattle.listing.specs.Call.{Asked, Lent, asked, lent, setupAsked, sizesFit, firstRefusal, listRefusal}
 use Rattle.rules.specs.Numbers.{eventOf, questionOf}
 use Rattle.listing.proofs.Refuses.{or-second, first-none, first-more, list-later}
 use Rattle.sections.specs.Sections.{Got, got, refused, Puzzle, puzzleOf}
@@ -31,7 +31,7 @@ use Rattle.shadow.specs.After as machine
 use Rattle.rules.specs.Refusal.{test, refusal}
 use Rattle.trainer.specs.Call.{posed, puzzleIn}
 use Rattle.trainer.specs.Run.{sizesOf}
-use Rattle.trainer.specs.Parts.{Posed, Startable, Ready, Counts, cut}
+use Rattle.trainer.specs.Parts.{Posed, Startable, Printable, Counts, cut}
 
 all-each : (n : ℕ) (f : ℕ → Bool) → ((k : ℕ) → k < n → f k ≡ true) → all n f ≡ true
 unfolding all
@@ -109,9 +109,9 @@ module _ (text : List ℕ) (z : Puzzle) (at : ℕ) (e : puzzleOf text ≡ got z 
           let a : Asked = asked (z .map) (z .cr3s) (z .events) (questionOf (z .questions) k) in
           let b : Lent = lent (wordsOf z) work outcomes in
           let r = range in
-          let f : ℕ → ℕ = λ j. eventRefusal (setupOf a b) (eventOf (z .events) j) in
+          let f : ℕ → ℕ = λ j. eventRefusal (setupAsked a b) (eventOf (z .events) j) in
           list-later a b (sizes-fit _ _ _ _ _ _ (r .some) (r .frames) (r .one) (r .processors) (r .fours) (r .events) (reads.words-long text e) w o) map-fits cr3s-fit
-          ∙ or-second (firstRefusal (length (z .events) / 4) f) (questionRefusal (setupOf a b) (questionOf (z .questions) k)) (first-all (length (z .events) / 4) f (λ j l. reads.events-fit text e j (omega arith)))
+          ∙ or-second (firstRefusal (length (z .events) / 4) f) (questionRefusal (setupAsked a b) (questionOf (z .questions) k)) (first-all (length (z .events) / 4) f (λ j l. reads.events-fit text e j (omega arith)))
           ∙ reads.questions-fit text e k (omega arith)
 
   -- setup's own tests: P and G are in range, the lengths are exact, and map frames lie below the pool
@@ -136,5 +136,5 @@ module _ (text : List ℕ) (z : Puzzle) (at : ℕ) (e : puzzleOf text ≡ got z 
           (simp (le-leb 1 G (r .some), le-leb G 256 (omega (arith, r .frames)), le-leb 1 P (r .one), le-leb P 4 (r .processors), eq-eqb G G refl, eq-eqb P P refl, eq-eqb (length pool) (512 * (P * 4)) (omega arith), eq-eqb (length records) (2 * (P * 4)) (omega arith), eq-eqb (length slots) (24 * P) c))
           frames-fit cr3s-fit
 
-  pub ready : Ready (posed z)
+  pub ready : Printable (posed z)
   ready = record { words = omega (arith, reads.words-long text e, range .frames); few = range .questions; events = range .events; starts = starts; each = posed-each }

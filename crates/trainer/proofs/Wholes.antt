@@ -19,7 +19,7 @@ use Rattle.render.specs.Written.{Out, outOf, written}
 use Rattle.render.proofs.Writes.{written-at, written-front}
 use Rattle.trainer.specs.declared.Written.the-variants.{Bytes}
 use Rattle.trainer.specs.Call.{posed, puzzleIn, Lines, Prints, Call}
-use Rattle.trainer.specs.Parts.{Ready, Counts, cut}
+use Rattle.trainer.specs.Parts.{Printable, Counts, cut}
 use Rattle.trainer.proofs.Puzzles.{Sizes, sizes, ready}
 
 abbrev pub zeros : Buffers
@@ -58,7 +58,7 @@ pub record Took (text : List ℕ) (b : Buffers) (g p e q : ℕ) : Type 0 where
   pub is : puzzleIn text ≡ got puzzle place
   pub fronts : cut b g p e q ≡ posed puzzle
   pub counts : Counts b g p e q
-  pub ready : Ready (posed puzzle)
+  pub ready : Printable (posed puzzle)
 
 pub in-text : (text : List ℕ) (t : Bool) {z : Puzzle} {at : ℕ} → cond t (puzzleOf text) (refused 1 0) ≡ got z at → puzzleOf text ≡ got z at
 in-text text true e = e

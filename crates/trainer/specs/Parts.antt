@@ -62,7 +62,7 @@ RunPut map cr3s words events before r after =
     EventsPut M map (started M cr3s words) events before r after
 
 -- every question can be asked, and the machine can start
-pub record Ready (b : Buffers) : Type 0 where
+pub record Printable (b : Buffers) : Type 0 where
   pub words : length (b .words) ≤ 8192
   pub few : length (b .questions) ≤ 48
   pub events : length (b .events) ≤ 1024

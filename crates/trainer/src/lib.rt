@@ -14,7 +14,7 @@ ghost use Rattle.render.specs.Written.{outOf, written};
 ghost use Rattle.trainer.specs.Call.{Call};
 ghost use Rattle.trainer.specs.Answers.{AnswersOf, AnswersCall};
 ghost use Rattle.trainer.specs.Run.{answerLine, RunCall};
-ghost use Rattle.trainer.specs.Parts.{LinesOf, Posed, Found, Answered, Startable, EventsPut, RunPut, Ready, AllPut, Counts, cut};
+ghost use Rattle.trainer.specs.Parts.{LinesOf, Posed, Found, Answered, Startable, EventsPut, RunPut, Printable, AllPut, Counts, cut};
 
 // The number of bytes written, or why the call was refused.
 pub enum Written {
@@ -124,7 +124,7 @@ fn put_answers(
     events: &[u64],
     questions: &[u64],
 ) -> usize
-    requires { ⌜ (length (now out) ≡ 16384) × Ready (buffers (now map) (now cr3s) (now start) (now events) (now questions)) ⌝ }
+    requires { ⌜ (length (now out) ≡ 16384) × Printable (buffers (now map) (now cr3s) (now start) (now events) (now questions)) ⌝ }
     ensures { λ r. ⌜ AllPut AnswersOf (buffers (now (map .entry)) (now (cr3s .entry)) (now (start .entry)) (now (events .entry)) (now (questions .entry))) (now (out .entry)) r (now (out .exit)) ⌝ }
 {
     let n = questions.len() / 3;
@@ -260,7 +260,7 @@ fn put_puzzle(
     q: usize,
     program: Program,
 ) -> usize
-    requires { ⌜ (length (now out) ≡ 16384) × Counts (buffers (now map) (now cr3s) (now words) (now events) (now questions)) g p e q × Ready (cut (buffers (now map) (now cr3s) (now words) (now events) (now questions)) g p e q) ⌝ }
+    requires { ⌜ (length (now out) ≡ 16384) × Counts (buffers (now map) (now cr3s) (now words) (now events) (now questions)) g p e q × Printable (cut (buffers (now map) (now cr3s) (now words) (now events) (now questions)) g p e q) ⌝ }
     ensures { λ r. ⌜ AllPut (LinesOf program) (cut (buffers (now (map .entry)) (now (cr3s .entry)) (now (words .entry)) (now (events .entry)) (now (questions .entry))) g p e q) (now (out .entry)) r (now (out .exit)) ⌝ }
 {
     match program {

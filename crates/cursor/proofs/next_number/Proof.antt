@@ -6,7 +6,7 @@ use native.Mathlib.Omega.{arith}
 use lib.ListN.{length, drop}
 use borrow.Author.Needs.{needs}
 use Rattle.cursor.specs.Text.{run}
-use Rattle.cursor.proofs.Runs.{value-told, big-told, first-inside, run-none, run-big, run-zero, run-one, run-other, none-here, number-here, here-inside}
+use Rattle.cursor.proofs.DigitRuns.{value-told, big-told, first-inside, run-none, run-big, run-zero, run-one, run-other, none-here, number-here, here-inside}
 use Rattle.cursor.proofs.next_number.Statement.{statement}
 use Rattle.cursor.proofs.next_number.Tie as tie
 

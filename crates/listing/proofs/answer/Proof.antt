@@ -10,7 +10,7 @@ use Rattle.paging.specs.Frame.{guest}
 use Rattle.paging.specs.Layout.{tables64, pageOf}
 use Rattle.paging.specs.Request.{requestOf}
 use Rattle.paging.proofs.Rights.{request-small}
-use Rattle.marks.specs.Follow.{restarted}
+use Rattle.held.specs.Follow.{restarted}
 use Rattle.listing.specs.Replay.{Replay, replayOf, replayed}
 use Rattle.listing.specs.Collect.{outOf, collected}
 use Rattle.listing.specs.Answer.{stateAt}

@@ -8,8 +8,8 @@ use lib.ListN.{set, length-set}
 use borrow.Author.Needs.{needs}
 use Rattle.paging.specs.Layout.{tables64, pageOf}
 use Rattle.paging.specs.Frame.{guest}
-use Rattle.marks.specs.Work.{workBytes}
-use Rattle.marks.specs.Follow.{restarted}
+use Rattle.held.specs.Work.{workBytes}
+use Rattle.held.specs.Follow.{restarted}
 use Rattle.listing.specs.Replay.{replayOf, forgets}
 use Rattle.listing.proofs.Applies.{forgets-in, applied-store, applied-other, applied-invlpg, applied-cr3, applied-none}
 use Rattle.listing.proofs.apply.Statement.{statement}

@@ -5,9 +5,9 @@ use native.Mathlib.Omega.{arith}
 use lib.ListN.{getD}
 use borrow.Author.Needs.{needs}
 use borrow.Author.Tests.{eq-eqb, ne-eqb}
-use Rattle.marks.specs.Work.{cell}
-use Rattle.marks.specs.Follow.{walkOf}
-use Rattle.marks.proofs.Cells.{cell-below}
+use Rattle.held.specs.Work.{cell}
+use Rattle.held.specs.Follow.{walkOf}
+use Rattle.held.proofs.Cells.{cell-below}
 use Rattle.listing.proofs.serves_with.Statement.{statement}
 use Rattle.listing.proofs.serves_with.Tie as tie
 

@@ -7,7 +7,7 @@ use borrow.Author.Needs.{needs}
 use borrow.Author.Tests.{eq-eqb, ne-eqb}
 use Rattle.paging.specs.declared.Walk.{Walk}
 use Rattle.paging.specs.declared.Step.{Step}
-use Rattle.marks.specs.Follow.{stepIn}
+use Rattle.held.specs.Follow.{stepIn}
 use Rattle.listing.specs.Collect.{stopCode}
 use Rattle.listing.proofs.Bytes.{byte-walk}
 use Rattle.listing.proofs.stop_at.Statement.{statement}

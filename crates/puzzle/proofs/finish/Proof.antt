@@ -6,7 +6,7 @@ use borrow.Author.Needs.{needs}
 use borrow.Author.Tests.{eq-eqb, ne-eqb}
 use Rattle.cursor.specs.declared.Cursor.{Cursor}
 use Rattle.cursor.specs.Text.{pastBlanks}
-use Rattle.cursor.proofs.Runs.{here-inside}
+use Rattle.cursor.proofs.DigitRuns.{here-inside}
 use Rattle.puzzle.specs.declared.ReadResult.the-variants.{Refused}
 use Rattle.puzzle.proofs.finish.Statement.{statement}
 use Rattle.puzzle.proofs.finish.Tie as tie

@@ -5,7 +5,7 @@ use Prim.Native.Nat.{ℕ}
 use native.Mathlib.Omega.{arith}
 use borrow.Author.Needs.{needs}
 use borrow.Author.Tests.{not-true, not-false}
-use Rattle.cursor.proofs.Runs.{next-stands}
+use Rattle.cursor.proofs.DigitRuns.{next-stands}
 use Rattle.sections.specs.Sections.{Got, width, countRange}
 use Rattle.sections.specs.Parts.{PartIs}
 use Rattle.sections.proofs.Cases.{part-by}

@@ -3,7 +3,7 @@ use mathlib.Core.Path.{_≡_, sym, ap, _∙_}
 use Prim.Native.Nat.{ℕ, _<_, _≤_}
 use native.Mathlib.Omega.{arith}
 use Rattle.paging.specs.declared.Guest.{Guest}
-use Rattle.tables.specs.State.{Shadow, shadowOf, stateOf, machine64, tableCount, shadows, Room, Spotted}
+use Rattle.tables.specs.State.{Shadow, shadowOf, stateOf, machine64, tableCount, shadows, Room, SpotFits}
 use Rattle.tables.specs.Steps.{Settled, spot, freeCount}
 use Rattle.tables.proofs.Names.{few, root-small}
 use Rattle.shadow.specs.Ready.{Ready}
@@ -16,7 +16,7 @@ use Rattle.shadow.proofs.fill.Tie as tie
 root-within : (c : tie.After-root-of) → c .root-of .result < tableCount (machine64 (c .before .before .before .before .before .before .args .z))
 root-within c = omega (arith, c .root-of .ensures, root-small (c .before .before .before .before .before .before .pre .sized) (c .before .before .before .before .before .before .args .p) (c .before .before .before .before .before .before .pre .own))
 
-from-top : (c : tie.After-shadowed-by) → Spotted (c .before .before .before .before .before .before .before .before .args .z) (spot 3 (c .before .before .root-of .result) (c .shadowed-by .result))
+from-top : (c : tie.After-shadowed-by) → SpotFits (c .before .before .before .before .before .before .before .before .args .z) (spot 3 (c .before .before .root-of .result) (c .shadowed-by .result))
 from-top c =
     let a = c .before .before .before .before .before .before .before .before .args in
     record {
@@ -29,7 +29,7 @@ from-top c =
 room-settled : (c : tie.After-settle) → Room (c .before .before .before .before .before .before .before .before .before .before .before .args .z) (c .settle .last .1 .1 .0)
 room-settled c = record { sized = c .before .before .before .before .before .before .before .before .before .before .before .pre .sized; pairs = c .settle .kept .1 .1 .0 ∙ c .before .before .before .before .before .before .before .before .before .before .before .pre .pairs }
 
-on-table : (c : tie.After-settle) → Spotted (c .before .before .before .before .before .before .before .before .before .before .before .args .z) (c .settle .result)
+on-table : (c : tie.After-settle) → SpotFits (c .before .before .before .before .before .before .before .before .before .before .before .args .z) (c .settle .result)
 on-table c =
     let a = c .before .before .before .before .before .before .before .before .before .before .before .args in
     let top = from-top (c .before .before .before) in

@@ -4,7 +4,7 @@ use Prim.Native.Nat.{ℕ, _+_, _%_}
 use native.Mathlib.Omega.{arith}
 use borrow.Author.Tests.{eq-eqb, ne-eqb}
 use borrow.Author.Needs.{needs}
-use Rattle.paging.specs.Layout.{tables64, bit, get, put, index, mark}
+use Rattle.paging.specs.Layout.{tables64, bit, get, put, index, withBit}
 use Rattle.paging.proofs.Indices.{index-small}
 use Rattle.shadow.specs.After.{dirtied}
 use Rattle.shadow.proofs.set_d.Statement.{statement}
@@ -19,8 +19,8 @@ returns c =
     let w : bit (a .q .needs) 0 ≡ 1 = omega (arith, c .before .before .before .before .before .before .before .before .if1 .taken) in
     simp (eq-eqb (bit (a .q .needs) 0) 1 w)
     (c .before .before .write-entry .ensures
-    ∙ ap (put tables64 (a .words .now) (a .last .0) (c .before .before .before .before .before .before .before .index-of .result)) (c .before .before .before .set-dirty .ensures ∙ ap (mark 6) e)
-    ∙ ap (λ (i : ℕ). put tables64 (a .words .now) (a .last .0) i (mark 6 (get tables64 (a .words .now) (a .last .0) i))) i)
+    ∙ ap (put tables64 (a .words .now) (a .last .0) (c .before .before .before .before .before .before .before .index-of .result)) (c .before .before .before .set-dirty .ensures ∙ ap (withBit 6) e)
+    ∙ ap (λ (i : ℕ). put tables64 (a .words .now) (a .last .0) i (withBit 6 (get tables64 (a .words .now) (a .last .0) i))) i)
 
 returns-2 : tie.Need-returns-2
 unfolding dirtied

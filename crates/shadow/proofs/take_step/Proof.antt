@@ -4,7 +4,7 @@ use Prim.Native.Nat.{ℕ}
 use native.Mathlib.Omega.{arith}
 use borrow.Author.Needs.{needs}
 use Rattle.tables.specs.State.{State, shadowOf, stateOf, machine64}
-use Rattle.shadow.proofs.Moves.{seventh, moved-store, moved-invlpg, moved-cr3, moved-access, moved-begin, moved-extend, moved-loss}
+use Rattle.shadow.proofs.Moves.{seventh, moved-store, moved-invlpg, moved-cr3, moved-access, moved-begin, moved-extend, moved-drop}
 use Rattle.shadow.proofs.take_step.Statement.{statement}
 use Rattle.shadow.proofs.take_step.Tie as tie
 
@@ -27,7 +27,7 @@ take-step-spec =
     (λ c κs. (c .before .before .before .before .before .before .before .before .before .before .pre .0, c .before .before .before .before .before .before .before .before .before .before .pre .1 .requests (c .before .before .before .before .match .keys4)))
     (λ c κs. (c .before .before .before .before .before .before .before .pre .0 .sized, c .before .before .before .before .before .before .before .pre .0 .own, c .before .before .before .before .before .before .before .pre .0 .triples, c .before .before .before .before .before .before .before .pre .1 .begins (c .before .match .keys5)))
     (λ c κs. (c .before .before .before .before .before .before .before .before .pre .0 .sized, c .before .before .before .before .before .before .before .before .pre .0 .own, c .before .before .before .before .before .before .before .before .pre .0 .triples, c .before .before .before .before .before .before .before .before .pre .1 .extends (c .before .before .match .keys6), c .before .before .before .before .before .before .before .before .pre .0 .guests, c .before .before .before .before .before .before .before .before .pre .1 .stands (c .before .before .before .before .before .before .before .before .args .e .a) (c .before .before .before .before .before .before .before .before .pre .1 .extends (c .before .before .match .keys6))))
-    (λ c κs. (omega (arith, c .before .before .before .before .before .before .before .pre .0 .own, c .before .before .before .before .before .before .before .pre .0 .sized .processors), c .before .before .before .before .before .before .before .pre .0 .triples, c .before .before .before .before .before .before .before .pre .1 .loses (is-seven (c .before))))
+    (λ c κs. (omega (arith, c .before .before .before .before .before .before .before .pre .0 .own, c .before .before .before .before .before .before .before .pre .0 .sized .processors), c .before .before .before .before .before .before .before .pre .0 .triples, c .before .before .before .before .before .before .before .pre .1 .drops (is-seven (c .before))))
     (λ c. c .before .before .store .kept .0)
     (λ c. let a = c .before .before .before .before .before .before .before .before .before .before .args in c .before .before .store .ensures (shadowOf (a .pool .now) (a .records .now)) (a .slots .now) ∙ moved-store (machine64 (a .z)) (a .map .now) (entry (c .before .before .before .before .before .before .before .before .before .before)) (a .e) (c .before .before .before .before .match .keys1))
     (λ c. c .before .before .before .before .invlpg .kept .0)
@@ -47,5 +47,5 @@ take-step-spec =
     (λ c. search needs)
     (λ c. search needs)
     (λ c. let a = c .before .before .before .before .before .before .before .before .before .before .before .args in c .before .before .extend .ensures (a .words .now) (a .records .now) ∙ moved-extend (machine64 (a .z)) (a .map .now) (entry (c .before .before .before .before .before .before .before .before .before .before .before)) (a .e) (c .before .before .before .before .before .match .keys6))
-    (λ c. c .before .before .lose .kept .0)
-    (λ c. let a = c .before .before .before .before .before .before .before .before .before .before .args in c .before .before .lose .ensures (a .words .now) (shadowOf (a .pool .now) (a .records .now)) ∙ moved-loss (machine64 (a .z)) (a .map .now) (entry (c .before .before .before .before .before .before .before .before .before .before)) (a .e) (is-seven (c .before .before .before .before))))
+    (λ c. c .before .before .drop-slot .kept .0)
+    (λ c. let a = c .before .before .before .before .before .before .before .before .before .before .args in c .before .before .drop-slot .ensures (a .words .now) (shadowOf (a .pool .now) (a .records .now)) ∙ moved-drop (machine64 (a .z)) (a .map .now) (entry (c .before .before .before .before .before .before .before .before .before .before)) (a .e) (is-seven (c .before .before .before .before))))

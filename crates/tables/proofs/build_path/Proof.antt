@@ -7,7 +7,7 @@ use lib.ListN.{length}
 use Rattle.paging.specs.Frame.{guest}
 use Rattle.paging.specs.Layout.{tables64, frameOf}
 use Rattle.paging.proofs.Indices.{index-small}
-use Rattle.tables.specs.State.{machine64, shadowOf, tableCount, Spotted}
+use Rattle.tables.specs.State.{machine64, shadowOf, tableCount, SpotFits}
 use Rattle.tables.specs.Steps.{Settled, settledAt, guestEntry, taken, freeCount, hangNext, build}
 use Rattle.tables.proofs.Names.{few, frame-small}
 use Rattle.tables.proofs.Takes.{taken-table, hang-count}
@@ -17,7 +17,7 @@ use Rattle.tables.proofs.build_path.Tie as tie
 
 abbrev Inv-loop : tie.InvT-loop
 Inv-loop map words pool₀ records₀ z p page w₀ pool records w =
-    Spotted z w × (w .missing ≤ freeCount (machine64 z) p records)
+    SpotFits z w × (w .missing ≤ freeCount (machine64 z) p records)
     × (length pool ≡ length pool₀) × (length records ≡ length records₀)
     × (build (machine64 z) map words p page (w .missing) (w .table) (w .frame) (shadowOf pool records)
     ≡ build (machine64 z) map words p page (w₀ .missing) (w₀ .table) (w₀ .frame) (shadowOf pool₀ records₀))

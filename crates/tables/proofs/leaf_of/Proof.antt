@@ -14,11 +14,11 @@ use Rattle.tables.proofs.leaf_of.Tie as tie
 
 shared-rights-requires : tie.Need-shared-rights-requires
 shared-rights-requires c κs =
-    (omega (arith, c .before .rights-of .ensures, rights-small tables64 (c .before .before .before .args .e)), omega (arith, c .is-dirty .ensures))
+    (omega (arith, c .before .rights-of .ensures, rights-small tables64 (c .before .before .before .args .e)), omega (arith, c .d-of .ensures))
 
 composed-requires : tie.Need-composed-requires
 composed-requires c κs = (
-  omega (arith, c .before .before .shared-rights .ensures, meet-small (c .before .before .before .before .rights-of .result) (6 + c .before .before .before .is-dirty .result)),
+  omega (arith, c .before .before .shared-rights .ensures, meet-small (c .before .before .before .before .rights-of .result) (6 + c .before .before .before .d-of .result)),
   omega arith,
   omega (arith, ap (λ (h : Host). h .0) (c .host-at .ensures), c .before .before .before .before .before .before .pre (c .before .frame-of .result)),
 )
@@ -28,7 +28,7 @@ unfolding leafOf
 returns c =
     let r = c .before .before .before .shared-rights .result in
     let h = ap (λ (h : Host). h .0) (c .before .host-at .ensures ∙ ap (λ (f : ℕ). hostOf (c .before .before .before .before .before .before .before .args .map .now) (guest f)) (c .before .before .frame-of .ensures)) in
-    let shared = c .before .before .before .shared-rights .ensures ∙ ap₂ (λ (a d : ℕ). meet a (6 + d)) (c .before .before .before .before .before .rights-of .ensures) (c .before .before .before .before .is-dirty .ensures) in
+    let shared = c .before .before .before .shared-rights .ensures ∙ ap₂ (λ (a d : ℕ). meet a (6 + d)) (c .before .before .before .before .before .rights-of .ensures) (c .before .before .before .before .d-of .ensures) in
     let low : r % 2 ≡ bit r 0 = omega arith in
     c .composed .ensures
     ∙ ap (λ (d : ℕ). compose tables64 r d (c .before .host-at .result .0)) low
@@ -40,7 +40,7 @@ leaf-of-spec =
     (tie.spec
     (λ c κs. search needs)
     (λ c κs. search needs)
-    (λ c. omega (arith, c .is-dirty .ensures))
+    (λ c. omega (arith, c .d-of .ensures))
     shared-rights-requires
     (λ c κs. search needs)
     (λ c κs. search needs)

@@ -6,7 +6,7 @@ use lib.ListN.{length}
 use borrow.Author.Tests.{not-true, not-false}
 use Rattle.paging.specs.Layout.{tables64, get}
 use Rattle.paging.proofs.Indices.{index-small}
-use Rattle.tables.specs.State.{machine64, shadowOf, Spotted}
+use Rattle.tables.specs.State.{machine64, shadowOf, SpotFits}
 use Rattle.tables.specs.Steps.{settle}
 use Rattle.tables.proofs.Names.{few, frame-small}
 use Rattle.tables.proofs.Fills.{agrees-named, settle-end, settle-on, settle-cut}
@@ -15,7 +15,7 @@ use Rattle.tables.proofs.settle.Tie as tie
 
 abbrev Inv-loop : tie.InvT-loop
 Inv-loop words pool₀ records₀ z page w₀ pool records w =
-    Spotted z w × (length pool ≡ length pool₀) × (length records ≡ length records₀)
+    SpotFits z w × (length pool ≡ length pool₀) × (length records ≡ length records₀)
     × (settle (machine64 z) words page (w .missing) (w .table) (w .frame) (shadowOf pool records)
     ≡ settle (machine64 z) words page (w₀ .missing) (w₀ .table) (w₀ .frame) (shadowOf pool₀ records₀))
 

@@ -8,7 +8,7 @@ use borrow.Author.Needs.{needs}
 use Rattle.paging.specs.declared.Walk.{Walk}
 use Rattle.paging.specs.declared.Step.{Step}
 use Rattle.paging.specs.declared.Step.the-variants.{On, Absent, Beyond, Complete}
-use Rattle.paging.specs.Layout.{tables64, get, put, index, rightsOf, markA}
+use Rattle.paging.specs.Layout.{tables64, get, put, index, rightsOf, withA}
 use Rattle.paging.specs.Walk.{start, step}
 use Rattle.paging.proofs.Indices.{index-small}
 use Rattle.paging.proofs.Rights.{meet-small}
@@ -73,7 +73,7 @@ loop-again c =
 
 -- the walk ends at its entry
 ended : (c : tie.After-step Inv-loop μ-loop) (r : Step) → c .step .result ≡ r
-    → byStep (c .before .before .before .before .before .before .before .loop .words) (c .before .before .before .before .before .before .before .loop .last) (c .before .before .before .before .before .before .before .loop .w) (λ w′. walkFrom tables64 (c .before .before .before .before .before .before .before .before .before .before .args .frames) (c .before .before .before .before .before .before .before .before .before .before .args .page) (c .before .before .before .before .before .before .before .loop .w .level - 1) (put tables64 (c .before .before .before .before .before .before .before .loop .words) (c .before .before .before .before .before .before .before .loop .w .frame .0) (index tables64 (c .before .before .before .before .before .before .before .before .before .before .args .page) (c .before .before .before .before .before .before .before .loop .w .level)) (markA (c .before .entry-at .result))) (c .before .before .before .before .before .before .before .loop .w .frame) w′) r
+    → byStep (c .before .before .before .before .before .before .before .loop .words) (c .before .before .before .before .before .before .before .loop .last) (c .before .before .before .before .before .before .before .loop .w) (λ w′. walkFrom tables64 (c .before .before .before .before .before .before .before .before .before .before .args .frames) (c .before .before .before .before .before .before .before .before .before .before .args .page) (c .before .before .before .before .before .before .before .loop .w .level - 1) (put tables64 (c .before .before .before .before .before .before .before .loop .words) (c .before .before .before .before .before .before .before .loop .w .frame .0) (index tables64 (c .before .before .before .before .before .before .before .before .before .before .args .page) (c .before .before .before .before .before .before .before .loop .w .level)) (withA (c .before .entry-at .result))) (c .before .before .before .before .before .before .before .loop .w .frame) w′) r
     ≡ walkGuest tables64 (c .before .before .before .before .before .before .before .before .before .before .args .frames) (c .before .before .before .before .before .before .before .before .before .before .args .page) (c .before .before .before .before .before .before .before .before .before .before .args .words .now) (c .before .before .before .before .before .before .before .before .before .before .args .cr3)
 ended c r q =
     let a = c .before .before .before .before .before .before .before .before .before .before .args in

@@ -8,7 +8,7 @@ use Rattle.sections.specs.Sections.{Got, Puzzle}
 use Rattle.puzzle.specs.Buffers.{Buffers, buffers}
 use Rattle.render.specs.Render.{renderRefusal}
 use Rattle.trainer.specs.Call.{puzzleIn, Prints}
-use Rattle.trainer.specs.Parts.{LinesOf, Ready, AllPut}
+use Rattle.trainer.specs.Parts.{LinesOf, Printable, AllPut}
 use Rattle.trainer.proofs.Wholes.{zeros, says, told, took, call-by}
 use Rattle.trainer.proofs.print.Statement.{statement}
 use Rattle.trainer.proofs.print.Tie as tie
@@ -20,7 +20,7 @@ put-puzzle-requires : tie.Need-put-puzzle-requires
 put-puzzle-requires c κs =
     let l = c .before .before .before .before .before .before .before .before .before .before .before .before .before .before .read .last in
     let t = took (c .before .before .before .before .before .before .before .before .before .before .before .before .before .before .before .before .before .before .before .before .before .before .before .args .text .now) (buffers (l .1 .0) (l .1 .1 .0) (l .1 .1 .1 .0) (l .1 .1 .1 .1 .0) (l .1 .1 .1 .1 .1 .0)) (says (c .before .before .before .before .before .before .before .before .before .before .before .before .before .before .before .before .before .before .before .before .before .before .before .args .text .now) _ (c .before .before .before .before .before .before .before .frames .given .1) (c .before .before .before .before .before .before .before .before .before .before .before .before .before .before .read .ensures)) in
-    (c .before .before .before .before .before .before .before .before .before .before .before .before .before .before .before .before .before .before .before .before .if1 .left, t .counts, subst⁻¹ Ready (t .fronts) (t .ready))
+    (c .before .before .before .before .before .before .before .before .before .before .before .before .before .before .before .before .before .before .before .before .if1 .left, t .counts, subst⁻¹ Printable (t .fronts) (t .ready))
 
 returns-2 : tie.Need-returns-2
 returns-2 c =

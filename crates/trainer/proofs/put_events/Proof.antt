@@ -7,7 +7,7 @@ use borrow.Author.Needs.{needs}
 use Rattle.tables.specs.State.{machine64, shadowOf, State, stateOf}
 use Rattle.render.specs.Written.{outOf, written}
 use Rattle.trainer.specs.Call.{joined}
-use Rattle.trainer.proofs.Runs.{lineOf, Ran, ran-none, ran-more}
+use Rattle.trainer.proofs.EventLines.{lineOf, Ran, ran-none, ran-more}
 use Rattle.trainer.proofs.put_events.Statement.{statement}
 use Rattle.trainer.proofs.put_events.Tie as tie
 

@@ -5,7 +5,7 @@ use borrow.Author.Needs.{needs}
 use Rattle.tables.specs.State.{machine64, shadowOf, State, stateOf}
 use Rattle.trainer.specs.Run.{sizesOf}
 use Rattle.trainer.specs.Parts.{EventsPut}
-use Rattle.trainer.proofs.Runs.{set-up}
+use Rattle.trainer.proofs.EventLines.{set-up}
 use Rattle.trainer.proofs.put_machine.Statement.{statement}
 use Rattle.trainer.proofs.put_machine.Tie as tie
 

@@ -4,7 +4,7 @@ use Prim.Native.Nat.{ℕ, _+_, _<_}
 use borrow.Author.Needs.{needs}
 use Rattle.render.specs.Render.{renderEvent}
 use Rattle.render.specs.Written.{outOf, written}
-use Rattle.trainer.proofs.Runs.{kind-small}
+use Rattle.trainer.proofs.EventLines.{kind-small}
 use Rattle.trainer.proofs.put_reply.Statement.{statement}
 use Rattle.trainer.proofs.put_reply.Tie as tie
 

@@ -1,0 +1,102 @@
+-- What the theorems ask of a view, and that the view of a history has it.
+use mathlib.Core.Path.{_≡_, refl, sym, _∙_, ap}
+use mathlib.Core.Logic.{_⊎_, inl, inr}
+use mathlib.Core.Bool.{Bool, true, false, cond, not, _&&_, _||_}
+use mathlib.Core.List.{List}
+use Prim.Native.Nat.{ℕ, zero, suc, _-_, _≤_, _<_}
+use native.Mathlib.Omega.{arith}
+use native.Mathlib.Decide.{decLt}
+use lib.Dec.{T, T-not, eqb, eqb→eq}
+use lib.ListN.{length, getD, List·getD-eq-default}
+use Rattle.paging.specs.declared.Walk.{Walk}
+use Rattle.paging.specs.declared.Step.{Step}
+use Rattle.paging.specs.declared.Step.the-variants.{On, Absent, Beyond, Complete}
+use Rattle.paging.specs.declared.Guest.{Guest}
+use Rattle.paging.specs.Frame.{guest}
+use Rattle.paging.specs.Layout.{Layout, get, index, rightsOf}
+use Rattle.paging.specs.Walk.{start, step}
+use Rattle.paging.proofs.Steps.{Goes, step-complete, goes, completed}
+use Rattle.paging.proofs.Layouts.{Sound}
+use Rattle.paging.proofs.Rights.{meet-small}
+use Rattle.paging.proofs.Tests.{T-true, and-l, and-r}
+use Rattle.rules.specs.declared.Event.{Event}
+use Rattle.rules.specs.Refusal.{refusal}
+use Rattle.rules.specs.History.{Setup, Fit, isBy, isCr3Write, isInvlpg, eventAt, eventRefusal, eventTests, wordsAt, cr3At, loaded}
+use Rattle.rules.specs.View.{View, viewOf}
+use Rattle.rules.proofs.Ranges.{cr3-within}
+
+-- a walk went on one level down, to a frame below G, with rights
+pub record Down (G : ℕ) (w w′ : Walk) : Type 0 where
+  pub level : w .level ≡ suc (w′ .level)
+  pub inside : w′ .frame .0 < G
+  pub small : w′ .rights < 8
+
+-- L levels, frames below G
+pub record Coherent (seen : View) (L G : ℕ) : Type 0 where
+  pub some-level : 0 < L
+  pub top : (k : ℕ) → seen .begins k .level ≡ L
+  pub full : (k : ℕ) → seen .begins k .rights < 8
+  -- CR3 changes only where partial walks end
+  pub root-kept : (k : ℕ) → T (not (seen .endsPartial k)) → seen .begins (suc k) ≡ seen .begins k
+  pub down : (k : ℕ) (w w′ : Walk) → seen .steps k w ≡ On w′ → Down G w w′
+  -- exactly the walks of level 0 are complete
+  pub done : (k : ℕ) (w : Walk) → w .level ≡ 0 → seen .steps k w ≡ Complete
+  pub undone : (k : ℕ) (w : Walk) → seen .steps k w ≡ Complete → w .level ≡ 0
+
+-- the walks that begin stand below G too: this needs a history that fits
+abbrev pub Rooted : View → ℕ → Type 0
+Rooted seen G = (k : ℕ) → seen .begins k .frame .0 < G
+
+-- ---- the view of a history
+
+-- a CR3 write of p ends partial walks
+cr3-ends : (U : Setup) (es : List Event) (p v k : ℕ) → T (isBy p (eventAt es k) && isCr3Write (eventAt es k)) → T (viewOf U es p v .endsPartial k)
+unfolding viewOf
+cr3-ends U es p v k t =
+    let mine = T-true (isBy p (eventAt es k)) (and-l (isBy p (eventAt es k)) _ t) in
+    let write = eqb→eq (eventAt es k .kind) 3 (and-r (isBy p (eventAt es k)) _ t) in
+    simp (write, mine) tt
+
+cr3-kept : (U : Setup) (es : List Event) (p v k : ℕ) → T (not (viewOf U es p v .endsPartial k)) → cr3At U es p (suc k) ≡ cr3At U es p k
+unfolding cr3At
+cr3-kept U es p v k t = cases (isBy p (eventAt es k) && isCr3Write (eventAt es k)) (λ u. T-not (viewOf U es p v .endsPartial k) t (cr3-ends U es p v k u))
+  where
+    cases : (b : Bool) → (T b → ⊥) → cond b (guest (eventAt es k .a)) (cr3At U es p k) ≡ cr3At U es p k
+    cases false h = refl
+    cases true h = absurd (h tt)
+
+pub coherent : (U : Setup) (es : List Event) (p v : ℕ) → Sound (U .tables) → Coherent (viewOf U es p v) (U .tables .levels) (U .frames)
+unfolding viewOf
+coherent U es p v ok = record {
+  some-level = ok .some-level;
+  top = λ k. refl;
+  full = λ k. omega arith;
+  root-kept = λ k t. ap (start (U .tables)) (cr3-kept U es p v k t);
+  down = λ k w w′ e. down-by (goes (U .tables) (U .frames) w _ w′ e);
+  done = λ k w z. step-complete (U .tables) (U .frames) w _ z;
+  undone = λ k w e. completed (U .tables) (U .frames) w _ e;
+}
+  where
+    down-by : {w w′ : Walk} {e : ℕ} → Goes (U .tables) (U .frames) w e w′ → Down (U .frames) w w′
+    down-by {w} {w′} {e} g = record {
+      level = let h : w′ .level ≡ w .level - 1 = ap (λ (x : Walk). x .level) (g .is) in omega (arith, g .partial);
+      inside = rw (g .is) (g .inside);
+      small = rw (g .is) (meet-small (w .rights) (rightsOf (U .tables) e));
+    }
+
+-- a CR3 write that fits is of a frame of the guest
+pub rooted : (U : Setup) (es : List Event) (p v : ℕ) → Fit U es → p < U .processors → Rooted (viewOf U es p v) (U .frames)
+unfolding viewOf cr3At
+rooted U es p v fit h k = inside k
+  where
+    new : (k : ℕ) → Dec (k < length es) → T (isBy p (eventAt es k) && isCr3Write (eventAt es k)) → eventAt es k .a < U .frames
+    new k (yes lt) t = cr3-within U (eventAt es k) (fit .events k lt) (T-true _ (and-r (isBy p (eventAt es k)) _ t))
+    new k (no ge) t = absurd (rw (List·getD-eq-default es (record { proc = 0; kind = 0; a = 0; b = 0 }) {n = k} (omega arith)) at (and-r (isBy p (eventAt es k)) _ t))
+
+    inside : (k : ℕ) → cr3At U es p k .0 < U .frames
+    inside zero = fit .starts p h
+    inside (suc k) = cases (isBy p (eventAt es k) && isCr3Write (eventAt es k)) (new k (decLt k (length es))) (inside k)
+      where
+        cases : (b : Bool) → (T b → eventAt es k .a < U .frames) → cr3At U es p k .0 < U .frames → (cond b (guest (eventAt es k .a)) (cr3At U es p k)) .0 < U .frames
+        cases true f g = f tt
+        cases false f g = g
