@@ -1,8 +1,8 @@
 -- The machine that `run` goes through is a fresh machine of demand 3 that loses no slot.
-use mathlib.Core.Path.{_≡_, refl, sym, ap, _∙_}
+use mathlib.Core.Path.{_≡_, refl, ap, _∙_}
 use mathlib.Core.Bool.{false}
 use mathlib.Core.List.{List, []}
-use Prim.Native.Nat.{ℕ, zero, suc, _*_, _/_, _≤_, _<_}
+use Prim.Native.Nat.{ℕ, zero, suc, _*_}
 use native.Mathlib.Omega.{arith}
 use lib.ListN.{length, replicate, length-replicate}
 use Rattle.paging.specs.Numbers.{each}
@@ -13,7 +13,7 @@ use Rattle.tables.specs.State.{Machine, machine64, shadowOf, State, stateOf, sl
 use Rattle.shadow.specs.After.{after, started, setupRefusal}
 use Rattle.shadow.proofs.Starting.{accepted-sizes, setup-sized}
 use Rattle.shadow.specs.Runs.{stateAfter, answerOf}
-use Rattle.sections.specs.Sections.{Got, got, Puzzle, puzzleOf}
+use Rattle.sections.specs.Sections.{got, Puzzle}
 use Rattle.puzzle.specs.Buffers.{wordsOf}
 use Rattle.puzzle.proofs.Theorems.{words-long}
 use Rattle.trainer.specs.Call.{puzzleIn}
@@ -21,7 +21,7 @@ use Rattle.trainer.specs.Run.{sizesOf}
 use Rattle.trainer.proofs.Theorems.{read, starts, fits}
 use Rattle.trees.proofs.Entries.{able64}
 use Rattle.promise.specs.Demand as D
-use Rattle.promise.specs.Demand.{Fresh, Run, Losses, losing, stateAt, before, answerAt}
+use Rattle.promise.specs.Demand.{Fresh, Run, losing, stateAt, answerAt}
 use Rattle.promise.proofs.Begun.{begun-trees, begun-triples}
 
 -- the machine of a puzzle, and the run of its events

@@ -1,23 +1,19 @@
 -- WHAT IT ALL MEANS. The three demands and the uniqueness of every public call, in the mission's words and order. Each
 -- theorem stands here with its whole statement; the last line names its proof. The contracts in crates/*/src say that the
 -- code keeps the promises that these theorems speak of.
-use mathlib.Core.Path.{_≡_, refl, sym, ap, _∙_}
-use mathlib.Core.Bool.{Bool, true, false, cond}
+use mathlib.Core.Path.{_≡_, refl, _∙_}
+use mathlib.Core.Bool.{true}
 use mathlib.Core.List.{List}
 use Prim.Native.Nat.{ℕ, _*_, _/_, _<_}
-use native.Mathlib.Omega.{arith}
-use lib.Dec.{T, eqb}
+use lib.Dec.{T}
 use lib.ListN.{length}
 use borrow.Author.Tests.{ne-eqb}
 use Rattle.paging.specs.Layout.{tables64}
 use Rattle.rules.specs.declared.Event.{Event}
-use Rattle.rules.specs.declared.Question.{Question}
-use Rattle.rules.specs.declared.Outcome.{Outcome}
 use Rattle.rules.specs.History.{isAccess, eventAt}
 use Rattle.rules.specs.Numbers.{eventsOf}
-use Rattle.rules.specs.Outcome.{RightAt}
 use Rattle.listing.specs.declared.Listed.{Listed}
-use Rattle.listing.specs.Call.{Asked, Lent, setupAsked, listRefusal, countOf, Lists, ListCall}
+use Rattle.listing.specs.Call.{Asked, Lent, listRefusal, countOf, Lists, ListCall}
 use Rattle.listing.proofs.Theorems as listing
 use Rattle.tables.specs.declared.Sizes.{Sizes}
 use Rattle.tables.specs.State.{State, machine64}
@@ -29,7 +25,7 @@ use Rattle.shadow.specs.Runs.{answerOf}
 use Rattle.shadow.proofs.Theorems as shadow
 use Rattle.trees.proofs.Entries.{laid64}
 use Rattle.keeps.proofs.Theorems as keeps
-use Rattle.sections.specs.Sections.{Got, got, Puzzle}
+use Rattle.sections.specs.Sections.{got, Puzzle}
 use Rattle.puzzle.specs.Buffers.{Buffers, After, readCall, wordsOf}
 use Rattle.puzzle.proofs.Theorems as puzzle
 use Rattle.trainer.specs.declared.Written.{Written}

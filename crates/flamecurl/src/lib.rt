@@ -14,7 +14,6 @@ ghost use lib.ListN.{length, getD};
 ghost use Rattle.tables.specs.State.{shadowOf, stateOf};
 ghost use Rattle.listing.specs.Call.{asked, lent};
 ghost use Rattle.puzzle.specs.Buffers.{buffers};
-ghost use Rattle.shadow.specs.After as shadow;
 ghost use Rattle.flamecurl.specs.Exports.{sizesOf, eventFrom, questionFrom, listNumbers, eventNumbers, readNumbers, writtenNumbers, ListExport, SetupExport, EventExport, ReadExport, PrintExport};
 ghost use Rattle.trainer.specs.Answers.{AnswersOf};
 ghost use Rattle.trainer.specs.Run.{RunOf};

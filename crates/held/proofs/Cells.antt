@@ -1,7 +1,7 @@
 -- Where the byte of a walk lies: below 40×G, and each walk has its own.
 use mathlib.Core.Path.{_≡_, refl, sym, _∙_, ap}
 use mathlib.Core.Logic.{_↔_}
-use Prim.Native.Nat.{ℕ, zero, suc, _+_, _*_, _/_, _%_, _≤_, _<_}
+use Prim.Native.Nat.{ℕ, zero, suc, _+_, _*_, _/_, _≤_, _<_}
 use native.Mathlib.Nat.{mul-le-mul-right, add-comm, add-mul-div-right, div-eq-of-lt}
 use native.Mathlib.Omega.{arith}
 use Rattle.paging.specs.declared.Walk.{Walk}

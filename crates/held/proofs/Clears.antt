@@ -1,14 +1,14 @@
 -- Clearing: the bytes from k on are 0, all others stay. So forgetting and beginning anew marks the held walks again.
 use mathlib.Core.Path.{_≡_, refl, sym, _∙_, ap}
-use mathlib.Core.Logic.{_⊎_, inl, inr}
+use mathlib.Core.Logic.{_⊎_, inl}
 use mathlib.Core.Bool.{not}
 use mathlib.Core.List.{List}
-use Prim.Native.Nat.{ℕ, zero, suc, _+_, _-_, _*_, _≤_, _<_}
+use Prim.Native.Nat.{ℕ, zero, suc, _+_, _-_, _≤_, _<_}
 use native.Mathlib.Decide.{ℕ-discrete, decLt}
 use native.Mathlib.Omega.{arith}
 use lib.Dec.{T}
-use lib.ListN.{length, getD, set, length-set, List·getD-eq-default}
-use lib.Seq.{getD-set-same, getD-set-other}
+use lib.ListN.{length, getD, set, length-set}
+use lib.Seq.{getD-set-other}
 use Rattle.paging.specs.declared.Guest.{Guest}
 use Rattle.paging.specs.declared.Walk.{Walk}
 use Rattle.paging.specs.Layout.{Layout}
@@ -17,7 +17,7 @@ use Rattle.paging.proofs.Numbers.{set-zero}
 use Rattle.rules.specs.View.{View}
 use Rattle.rules.proofs.Steps.{Kept, stay, ends}
 use Rattle.held.specs.Work.{cell, workBytes, HasByte}
-use Rattle.held.specs.Follow.{cleared, followed, restarted}
+use Rattle.held.specs.Follow.{cleared, restarted}
 use Rattle.held.proofs.Cells.{cell-below}
 use Rattle.held.proofs.Closing.{ByteSet, Bits, Grows, follow-grows}
 use Rattle.held.proofs.Tracks.{Told, Tracks, begun, kept-byte}

@@ -1,13 +1,11 @@
 -- Following a chain, turn by turn: the laws that the code's loop cites.
-use mathlib.Core.Path.{_≡_, refl, sym, _∙_, ap}
+use mathlib.Core.Path.{_≡_, refl, _∙_, ap}
 use mathlib.Core.Logic.{_⊎_, inl, inr}
-use mathlib.Core.Bool.{Bool, true, false, cond}
 use mathlib.Core.List.{List, [], _∷_}
 use Prim.Native.Nat.{ℕ, zero, suc, _+_, _-_, _*_, _/_, _%_, _≤_, _<_}
 use native.Mathlib.Omega.{arith}
 use types.Run.{OneOf}
 use denote.Enum.Declared.{tagOf}
-use lib.Dec.{eqb}
 use lib.ListN.{getD, set}
 use borrow.Author.Tests.{eq-eqb, ne-eqb}
 use Rattle.paging.specs.declared.Walk.{Walk}
@@ -18,7 +16,7 @@ use Rattle.paging.proofs.Step.{the-type}
 use Rattle.paging.proofs.Steps.{Goes, goes}
 use Rattle.paging.proofs.Rights.{meet-small}
 use Rattle.held.specs.Work.{cell, HasByte}
-use Rattle.held.specs.Follow.{isSet, onward, cleared, stepIn, follow, followed, reread, rereadAll, rereadAt, rereadWord}
+use Rattle.held.specs.Follow.{onward, cleared, stepIn, follow, followed, reread, rereadAll, rereadAt, rereadWord}
 
 module _ (Y : Layout) (G page : ℕ) (words : List ℕ) where
   -- a walk that has a byte goes on to one that has a byte, one level down

@@ -1,17 +1,16 @@
 -- The marked walks are the held ones, from moment to moment: after a store that reads its word again, after an event
 -- that changes nothing, and after an INVLPG or CR3 write that forgets and begins anew.
 use mathlib.Core.Path.{_≡_, refl, sym, _∙_, ap}
-use mathlib.Core.Logic.{_↔_, _⊎_, inl, inr}
-use mathlib.Core.Bool.{Bool, true, false, not}
+use mathlib.Core.Logic.{_⊎_, inl, inr}
+use mathlib.Core.Bool.{not}
 use mathlib.Core.List.{List}
-use Prim.Native.Nat.{ℕ, zero, suc, _+_, _-_, _*_, _/_, _%_, _≤_, _<_}
-use native.Mathlib.Decide.{ℕ-discrete, decLt}
+use Prim.Native.Nat.{ℕ, suc, _-_, _*_, _/_, _≤_, _<_}
+use native.Mathlib.Decide.{ℕ-discrete}
 use native.Mathlib.Omega.{arith}
-use lib.Dec.{T, T-not}
-use lib.ListN.{length, getD, set, length-set}
-use lib.Seq.{getD-set-same, getD-set-other}
+use lib.Dec.{T}
+use lib.ListN.{length, set}
+use lib.Seq.{getD-set-other}
 use Rattle.paging.specs.declared.Walk.{Walk}
-use Rattle.paging.specs.declared.Step.{Step}
 use Rattle.paging.specs.declared.Step.the-variants.{On, Complete}
 use Rattle.paging.specs.Layout.{Layout, frameWords, get, index}
 use Rattle.paging.specs.Walk.{step}
@@ -20,9 +19,8 @@ use Rattle.paging.proofs.Indices.{index-small}
 use Rattle.rules.specs.View.{View}
 use Rattle.rules.proofs.Views.{Coherent, Rooted}
 use Rattle.rules.proofs.Steps.{Kept, begin, extend, stay, ends, kept-level, kept-small, kept-inside}
-use Rattle.held.specs.Work.{cell, workBytes, HasByte}
-use Rattle.held.specs.Follow.{cleared, stepIn, followed, rereadWord}
-use Rattle.held.proofs.Cells.{cell-below}
+use Rattle.held.specs.Work.{workBytes, HasByte}
+use Rattle.held.specs.Follow.{stepIn, followed, rereadWord}
 use Rattle.held.proofs.Closing.{ByteSet, Bits, Grows, Closed, Within, Onto, Stands, word-grows, word-within, word-closed, follow-grows, follow-has, follow-within, follow-closed}
 
 module _ (Y : Layout) (seen : View) (G page : ℕ) (words : ℕ → List ℕ) where

@@ -2,7 +2,7 @@
 -- shows that they mark exactly the held walks.
 use mathlib.Core.Bool.{Bool, cond}
 use mathlib.Core.List.{List}
-use Prim.Native.Nat.{ℕ, zero, suc, _+_, _-_, _*_, _/_}
+use Prim.Native.Nat.{ℕ, zero, suc, _+_, _-_, _/_}
 use lib.Dec.{eqb}
 use lib.ListN.{getD, set}
 use Rattle.paging.specs.declared.Guest.{Guest}

@@ -2,10 +2,8 @@
 -- later bytes stay."
 use mathlib.Core.Path.{_≡_}
 use mathlib.Core.Logic.{_⊎_}
-use mathlib.Core.Bool.{Bool}
 use mathlib.Core.List.{List}
 use Prim.Native.Nat.{ℕ, _+_, _*_, _≤_, _<_}
-use lib.Dec.{eqb}
 use lib.ListN.{length, getD}
 use Rattle.paging.specs.declared.Walk.{Walk}
 use Rattle.paging.specs.Layout.{frameWords}

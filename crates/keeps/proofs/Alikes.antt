@@ -1,5 +1,5 @@
 -- Words whose entries agree but for A and D: stores keep that, setting A or D keeps it, and walks do the same on them.
-use mathlib.Core.Path.{_≡_, refl, sym, ap, _∙_}
+use mathlib.Core.Path.{_≡_, refl, sym, _∙_}
 use mathlib.Core.List.{List}
 use Prim.Native.Nat.{ℕ, _^_, _<_}
 use native.Mathlib.Decide.{ℕ-discrete, decLt}

@@ -1,18 +1,17 @@
 -- Whole tables and entries, by the tests on the way; the loop's invariant is that the entries below i are whole.
 use mathlib.Core.Path.{_≡_, sym, ap, _∙_}
-use mathlib.Core.Bool.{Bool, true, false, cond, _&&_, _||_}
+use mathlib.Core.Bool.{Bool, true, false}
 use mathlib.Core.List.{List}
 use Prim.Native.Nat.{ℕ, zero, suc, _-_, _+_, _<_, _≤_}
 use native.Mathlib.Numerals.{sub-one}
 use native.Mathlib.Omega.{arith}
-use lib.Dec.{eqb, ltb}
 use borrow.Author.Tests.{eq-eqb, ne-eqb, lt-ltb, le-ltb}
 use Rattle.paging.specs.Layout.{tables64}
 use Rattle.paging.specs.Numbers.{all}
 use Rattle.paging.proofs.Numbers.{all-none, all-more, all-fails}
 use Rattle.tables.specs.declared.Sizes.{Sizes}
 use Rattle.tables.specs.State.{machine64, tableCount, entryOf, named}
-use Rattle.lawful.specs.Rules.{isLeaf, entryBy, tableWhole, entryWhole}
+use Rattle.lawful.specs.Rules.{isLeaf, tableWhole, entryWhole}
 
 pub record Checked (z : Sizes) (map pool : List ℕ) (t level i : ℕ) : Type 0 where
   pub some : 0 < level

@@ -2,7 +2,7 @@
 ghost use mathlib.Core.Path.{_≡_};
 ghost use mathlib.Core.List.{List};
 ghost use Prim.Native.Nat.{ℕ, _+_, _*_, _/_, _%_, _<_, _≤_};
-ghost use lib.ListN.{length, getD};
+ghost use lib.ListN.{length};
 ghost use Rattle.paging.specs.Layout.{tables64};
 ghost use Rattle.paging.specs.Numbers.{all};
 ghost use Rattle.tables.specs.State.{shadowOf, stateOf, machine64, tableCount, rootOf, entryOf, Sized};

@@ -1,25 +1,23 @@
 -- What a call that is not refused is known to be: sizes in range, a history that fits, a question within its ranges.
-use mathlib.Core.Path.{_≡_, refl, sym, _∙_, ap}
-use mathlib.Core.Logic.{_⊎_, inl, inr}
-use mathlib.Core.Bool.{Bool, true, false, cond, not, _&&_}
+use mathlib.Core.Path.{_≡_, refl, _∙_, ap}
+use mathlib.Core.Bool.{true, not}
 use mathlib.Core.List.{List, [], _∷_}
 use Prim.Native.Nat.{ℕ, _+_, _*_, _/_, _%_, _^_, _≤_, _<_}
 use native.Mathlib.Omega.{arith}
 use lib.Dec.{eqb, ltb, leb}
 use lib.ListN.{length, getD}
 use borrow.Author.Tests.{leb-true, leb-false, ltb-true, ltb-false, eqb-true, not-false}
-use Rattle.paging.specs.Numbers.{isBetween, tab}
+use Rattle.paging.specs.Numbers.{isBetween}
 use Rattle.paging.specs.Frame.{mapFits, cr3sFit}
-use Rattle.paging.specs.Layout.{tables64, frameWords}
+use Rattle.paging.specs.Layout.{frameWords}
 use Rattle.paging.proofs.Tests.{both}
 use Rattle.paging.proofs.Numbers.{all-at, tab-length, tab-at, between}
-use Rattle.rules.specs.declared.Event.{Event}
-use Rattle.rules.specs.Refusal.{Test, test, refusal}
-use Rattle.rules.specs.History.{Setup, Fit, eventAt, eventRefusal, eventTests}
+use Rattle.rules.specs.Refusal.{test}
+use Rattle.rules.specs.History.{Fit, eventAt, eventRefusal}
 use Rattle.rules.specs.Outcome.{questionRefusal}
 use Rattle.rules.proofs.Ranges.{Clear, clear, event-clear, cr3-within}
 use Rattle.held.specs.Work.{workBytes, Room}
-use Rattle.listing.specs.Call.{Asked, Lent, setupAsked, sizesFit, lengthsFit, orElse, firstRefusal, listRefusal}
+use Rattle.listing.specs.Call.{Asked, Lent, setupAsked, sizesFit, lengthsFit, firstRefusal, listRefusal}
 use Rattle.rules.specs.Numbers.{eventOf, eventsOf}
 use Rattle.listing.specs.Replay.{Reach}
 use Rattle.listing.specs.Answer.{Answerable}

@@ -1,7 +1,6 @@
 -- What taking an event does, case by case, in the order of the code.
-use mathlib.Core.Path.{_≡_, refl}
+use mathlib.Core.Path.{_≡_}
 use mathlib.Core.Bool.{Bool, true, false, cond, _&&_}
-use mathlib.Core.List.{List}
 use Prim.Native.Nat.{ℕ, _*_, _≤_, _<_}
 use native.Mathlib.Omega.{arith}
 use lib.Dec.{T, eqb, eqb→eq}
@@ -12,7 +11,6 @@ use Rattle.paging.specs.Layout.{tables64, pageOf}
 use Rattle.paging.proofs.Tests.{and-r}
 use Rattle.rules.specs.declared.Event.{Event}
 use Rattle.rules.specs.History.{isStore, isInvlpg, isCr3Write, isBy}
-use Rattle.held.specs.Work.{workBytes}
 use Rattle.held.specs.Follow.{rereadWord, restarted}
 use Rattle.listing.specs.Replay.{Replay, replayOf, Reach, forgets, applied}
 

@@ -1,28 +1,26 @@
 -- The outcomes collected from the bytes of the held walks are the right list.
-use mathlib.Core.Path.{_≡_, refl, sym, _∙_, ap, ap₂, subst}
-use mathlib.Core.Logic.{_↔_, _⊎_, inl, inr}
-use mathlib.Core.Bool.{Bool, true, false, cond, not, _&&_}
+use mathlib.Core.Path.{_≡_, refl, sym, _∙_, ap}
+use mathlib.Core.Logic.{_⊎_, inl, inr}
+use mathlib.Core.Bool.{Bool, true, false, cond}
 use mathlib.Core.List.{List, [], _∷_, _++_, append-nil, List·Memᴰ·head, List·Memᴰ·tail, List·Memᴰ·cases-cons, List·Memᴰ·not-nil, Memᴰ·append-left, Memᴰ·append-right, List·Memᴰ·append-cases}
-use Prim.Native.Nat.{ℕ, zero, suc, _+_, _-_, _*_, _/_, _%_, _≤_, _<_}
+use Prim.Native.Nat.{ℕ, zero, suc, _+_, _-_, _*_, _%_, _≤_, _<_}
 use native.Mathlib.Decide.{ℕ-discrete, decLt}
 use native.Mathlib.Omega.{arith}
-use lib.Dec.{T, eqb, eqb→eq}
+use lib.Dec.{eqb}
 use lib.ListN.{length, getD, length-append}
-use borrow.Author.Tests.{eq-eqb, eqb-true, not-true, not-false}
-use Rattle.paging.specs.declared.Guest.{Guest}
+use borrow.Author.Tests.{eq-eqb, eqb-true, not-true}
 use Rattle.paging.specs.declared.Walk.{Walk}
 use Rattle.paging.specs.declared.Request.{Request}
 use Rattle.paging.specs.declared.Step.{Step}
 use Rattle.paging.specs.declared.Step.the-variants.{On, Absent, Beyond, Complete}
-use Rattle.paging.specs.Numbers.{some, each}
+use Rattle.paging.specs.Numbers.{each}
 use Rattle.paging.specs.Frame.{guest}
 use Rattle.paging.specs.Request.{enough}
-use Rattle.paging.proofs.Tests.{and-i, and-l, and-r, T-true, true-T}
+use Rattle.paging.proofs.Tests.{and-l, and-r, T-true, true-T}
 use Rattle.paging.proofs.Numbers.{some-i, some-e}
 use Rattle.rules.specs.declared.Outcome.{Outcome}
 use Rattle.rules.specs.declared.Outcome.the-variants.{Address, Fault}
 use Rattle.rules.specs.View.{View}
-use Rattle.rules.specs.Held.{Held}
 use Rattle.rules.specs.Outcome.{given, Permitted, Before, Rises, RightList}
 use Rattle.rules.proofs.Order.{Mem}
 use Rattle.rules.proofs.Steps.{Kept, held-is-kept}
@@ -32,7 +30,7 @@ use Rattle.held.proofs.Cells.{cell-below, cell-own, complete-first}
 use Rattle.held.proofs.Closing.{ByteSet}
 use Rattle.held.proofs.Tracks.{Told, Tracks, kept-byte}
 use Rattle.listing.specs.Call.{pairs}
-use Rattle.listing.specs.Collect.{Out, outOf, pushed, stopCode, walkAt, servesWith, serves, lacksAt, lacks, stopsAt, stops, addresses, collected}
+use Rattle.listing.specs.Collect.{outOf, pushed, stopCode, walkAt, servesWith, serves, lacksAt, lacks, stopsAt, stops, addresses, collected}
 use Rattle.listing.proofs.Bytes.{byte-walk, byte-cell}
 use Rattle.listing.proofs.Pairs.{ifs, Wrote, wrote-none, wrote-push}
 use Rattle.paging.specs.Layout.{tables64}

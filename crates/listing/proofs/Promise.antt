@@ -1,14 +1,13 @@
 -- An accepted call keeps its promise; and the promise allows one result.
-use mathlib.Core.Path.{_≡_, refl, sym, _∙_, ap, ap₂, subst}
-use mathlib.Core.Logic.{_↔_, _⊎_, inl, inr}
-use mathlib.Core.List.{List, [], _∷_, _++_}
-use Prim.Native.Nat.{ℕ, zero, suc, _+_, _*_, _/_, _≤_, _<_}
-use native.Mathlib.Decide.{ℕ-discrete, decLt}
+use mathlib.Core.Path.{_≡_, refl, sym, _∙_, ap, subst}
+use mathlib.Core.Logic.{_⊎_, inl, inr}
+use mathlib.Core.List.{List, _++_}
+use Prim.Native.Nat.{ℕ, _+_, _*_, _/_, _≤_, _<_}
+use native.Mathlib.Decide.{decLt}
 use native.Mathlib.Omega.{arith}
 use lib.ListN.{length, getD, drop}
 use lib.Seq.{ext-getD}
 use Rattle.paging.specs.declared.Walk.{Walk}
-use Rattle.paging.specs.Frame.{guest}
 use Rattle.paging.specs.Layout.{tables64, pageOf}
 use Rattle.paging.specs.Request.{requestOf}
 use Rattle.paging.proofs.Layouts.{tables64-sound}
@@ -16,21 +15,18 @@ use Rattle.rules.specs.declared.Outcome.{Outcome}
 use Rattle.rules.specs.History.{wordsAt}
 use Rattle.rules.specs.View.{View, viewOf}
 use Rattle.rules.specs.Held.{Held}
-use Rattle.rules.specs.Outcome.{RightList}
-use Rattle.rules.proofs.Steps.{Kept, held-is-kept}
+use Rattle.rules.proofs.Steps.{held-is-kept}
 use Rattle.rules.proofs.Theorems.{one-list, some-outcome}
 use Rattle.held.specs.Work.{cell, workBytes, HasByte, Tells, WorkTells}
-use Rattle.held.specs.Follow.{restarted}
 use Rattle.held.proofs.Cells.{cell-below}
 use Rattle.held.proofs.Tracks.{Told, Tracks}
 use Rattle.listing.specs.declared.Listed.{Listed}
 use Rattle.listing.specs.declared.Listed.the-variants.{Count, Refused}
-use Rattle.listing.specs.Call.{Asked, Lent, lent, setupAsked, pairs, refusalOf, countOf, listRefusal, Lists, ListCall}
+use Rattle.listing.specs.Call.{Asked, Lent, lent, setupAsked, pairs, refusalOf, countOf, Lists}
 use Rattle.rules.specs.Numbers.{eventsOf}
-use Rattle.listing.specs.Replay.{Replay, replayOf}
 use Rattle.listing.specs.Collect.{Out, outOf, walkAt, collected}
 use Rattle.listing.specs.Answer.{stateAt, Answers}
-use Rattle.listing.proofs.Accepts.{Accepted, room, event-at, fit, reach}
+use Rattle.listing.proofs.Accepts.{Accepted, event-at, fit, reach}
 use Rattle.listing.proofs.Replays.{Follows, told, started, replayed-follows}
 use Rattle.listing.proofs.Collects.{listed, collected-wrote, listed-right}
 use Rattle.listing.proofs.Pairs.{Wrote}

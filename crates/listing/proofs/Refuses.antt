@@ -1,13 +1,12 @@
 -- The first refusal of a row of them.
 use mathlib.Core.Path.{_≡_, refl, sym, _∙_, ap}
-use mathlib.Core.Bool.{Bool, true, false, cond}
-use Prim.Native.Nat.{ℕ, zero, suc, _+_, _/_, _^_, _≤_, _<_}
+use mathlib.Core.Bool.{true, false}
+use Prim.Native.Nat.{ℕ, zero, suc, _+_, _/_, _^_, _<_}
 use native.Mathlib.Numerals.{add-one}
 use native.Mathlib.Decide.{ℕ-discrete}
 use native.Mathlib.Omega.{arith}
-use lib.Dec.{eqb}
 use lib.ListN.{length}
-use borrow.Author.Tests.{eq-eqb, ne-eqb, eqb-true, eqb-false}
+use borrow.Author.Tests.{eq-eqb, ne-eqb}
 use Rattle.paging.specs.Frame.{mapFits, cr3sFit}
 use Rattle.rules.specs.Refusal.{refusal}
 use Rattle.rules.specs.History.{eventRefusal}

@@ -1,36 +1,35 @@
 -- Taking the events one by one keeps the words, the CR3 and the marked walks of each moment.
-use mathlib.Core.Path.{_≡_, refl, sym, _∙_, ap, ap₂, subst}
-use mathlib.Core.Logic.{_⊎_, inl, inr}
-use mathlib.Core.Bool.{Bool, true, false, cond, not, _&&_, _||_, and-false}
+use mathlib.Core.Path.{_≡_, refl, sym, _∙_, ap, subst}
+use mathlib.Core.Bool.{Bool, true, false, not, and-false}
 use mathlib.Core.List.{List}
-use Prim.Native.Nat.{ℕ, zero, suc, _+_, _-_, _*_, _/_, _≤_, _<_}
+use Prim.Native.Nat.{ℕ, zero, suc, _-_, _*_, _≤_, _<_}
 use native.Mathlib.Decide.{ℕ-discrete}
 use native.Mathlib.Omega.{arith}
 use lib.Dec.{T, eqb}
-use lib.ListN.{length, getD, set, length-set}
+use lib.ListN.{length, getD, set}
 use borrow.Author.Tests.{eq-eqb, ne-eqb}
 use Rattle.paging.specs.declared.Guest.{Guest}
 use Rattle.paging.specs.declared.Walk.{Walk}
 use Rattle.paging.specs.Numbers.{each}
 use Rattle.paging.specs.Frame.{guest}
-use Rattle.paging.specs.Layout.{tables64, frameWords, pageOf}
+use Rattle.paging.specs.Layout.{tables64, pageOf}
 use Rattle.paging.specs.Walk.{start}
 use Rattle.paging.proofs.Layouts.{tables64-sound}
 use Rattle.paging.proofs.Tests.{false-T}
 use Rattle.rules.specs.declared.Event.{Event}
-use Rattle.rules.specs.History.{Setup, setup64, Fit, eventAt, wordsAt, cr3At, isStore, isInvlpg, isCr3Write, isBy}
+use Rattle.rules.specs.History.{Setup, setup64, Fit, eventAt, wordsAt, cr3At}
 use Rattle.rules.specs.View.{View, viewOf, endsPartialOf, endsCompleteOf}
 use Rattle.rules.proofs.Views.{coherent, rooted}
 use Rattle.rules.proofs.Steps.{ends, byLevel, never}
 use Rattle.held.specs.Work.{cell, workBytes, HasByte}
-use Rattle.held.specs.Follow.{cleared, stepIn, rereadWord, restarted}
-use Rattle.held.proofs.Cells.{cell-below, complete-first}
-use Rattle.held.proofs.Closing.{Grows, word-grows}
+use Rattle.held.specs.Follow.{stepIn, rereadWord, restarted}
+use Rattle.held.proofs.Cells.{complete-first}
+use Rattle.held.proofs.Closing.{word-grows}
 use Rattle.held.proofs.Tracks.{Told, Tracks, after-store, after-idle}
 use Rattle.held.proofs.Clears.{cleared-size, cleared-above, from-start, after-end, restart-grows}
 use Rattle.rules.specs.Numbers.{eventOf}
 use Rattle.listing.specs.Replay.{Replay, replayOf, Reach, forgets, applied, replayed}
-use Rattle.listing.proofs.Applies.{forgets-all, forgets-partial, applied-store, applied-other, applied-invlpg, applied-cr3, applied-none, applied-in}
+use Rattle.listing.proofs.Applies.{forgets-all, forgets-partial, applied-store, applied-other, applied-invlpg, applied-cr3, applied-none}
 
 -- ---- which walks an event ends
 

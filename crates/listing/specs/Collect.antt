@@ -1,7 +1,7 @@
 -- How the code collects the outcomes from the work bytes, in the form of its code.
 use mathlib.Core.Bool.{Bool, cond, not, _&&_, _||_}
 use mathlib.Core.List.{List}
-use Prim.Native.Nat.{ℕ, zero, suc, _+_, _*_, _/_, _%_}
+use Prim.Native.Nat.{ℕ, _+_, _*_, _/_, _%_}
 use lib.Dec.{eqb}
 use lib.ListN.{getD, set}
 use Rattle.paging.specs.declared.Walk.{Walk}
@@ -11,7 +11,6 @@ use Rattle.paging.specs.declared.Step.the-variants.{On, Absent, Beyond, Complet
 use Rattle.paging.specs.Numbers.{some, each}
 use Rattle.paging.specs.Request.{enough}
 use Rattle.listing.specs.declared.Faults.{Faults}
-use Rattle.held.specs.Work.{cell}
 use Rattle.held.specs.Follow.{isSet, walkOf, stepIn}
 use Rattle.paging.specs.Layout.{tables64}
 

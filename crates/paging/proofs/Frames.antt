@@ -1,7 +1,7 @@
 -- Between guest and host: the search for a guest frame says the same of what is left, and finds what the map sent.
 use mathlib.Core.Path.{_≡_, refl, sym, _∙_, ap}
-use mathlib.Core.Bool.{Bool, true, cond, not, _&&_}
-use mathlib.Core.List.{List, [], _∷_}
+use mathlib.Core.Bool.{true, not, _&&_}
+use mathlib.Core.List.{List}
 use Prim.Native.Nat.{ℕ, zero, suc, _+_, _≤_, _<_}
 use native.Mathlib.Numerals.{add-one}
 use native.Mathlib.Omega.{arith}
@@ -13,7 +13,7 @@ use borrow.Author.Tests.{eq-eqb, ne-eqb, eqb-false, not-true}
 use Rattle.paging.specs.declared.Guest.{Guest}
 use Rattle.paging.specs.declared.Host.{Host}
 use Rattle.paging.specs.declared.Origin.the-variants.{Of, Nowhere}
-use Rattle.paging.specs.Frame.{guest, host, hostOf, originFrom, originOf, isNew, mapFits}
+use Rattle.paging.specs.Frame.{guest, hostOf, originFrom, originOf, isNew, mapFits}
 use Rattle.paging.proofs.Tests.{both}
 use Rattle.paging.proofs.Numbers.{all-at, all-same}
 

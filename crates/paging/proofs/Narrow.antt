@@ -1,6 +1,6 @@
 -- A trial: 32-bit tables as a second layout, and that it is sound. "Entry i of frame f is half i mod 2 of word 512×f + i/2."
 use mathlib.Core.Path.{_≡_, refl}
-use mathlib.Core.Logic.{_⊎_, inl, inr}
+use mathlib.Core.Logic.{inl, inr}
 use Prim.Native.Nat.{ℕ, zero, suc, _+_, _-_, _*_, _/_, _%_, _^_, _<_}
 use native.Mathlib.Omega.{arith}
 use lib.Dec.{ltb}

@@ -1,7 +1,7 @@
 -- Rights are numbers below 8: each law on them is decided at all cases, by computation.
 use mathlib.Core.Path.{_≡_, refl, sym}
 use mathlib.Core.Bool.{Bool, true, false, Bool·beq, not, _||_}
-use Prim.Native.Nat.{ℕ, _+_, _*_, _/_, _%_, _^_, _<_, _≤_}
+use Prim.Native.Nat.{ℕ, _<_, _≤_}
 use native.Mathlib.Omega.{arith}
 use lib.Dec.{T, eqb, ltb, leb, eqb→eq, ltb→lt, leb→le}
 use lib.Bits.{bitAnd}
@@ -9,7 +9,7 @@ use Rattle.paging.specs.declared.Request.{Request}
 use Rattle.paging.specs.Layout.{Layout, tables64, rightsOf}
 use Rattle.paging.specs.Walk.{meet}
 use Rattle.paging.specs.Request.{requestOf, enough}
-use Rattle.paging.proofs.Tests.{T-true, true-T, or-cases}
+use Rattle.paging.proofs.Tests.{T-true}
 use Rattle.paging.proofs.Finite.{below, at-below, at-below₂}
 
 same-eq : (a b : Bool) → T (Bool·beq a b) → a ≡ b

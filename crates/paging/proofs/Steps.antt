@@ -1,18 +1,16 @@
 -- What a step does, case by case, and what a step that goes on tells. Over any layout.
-use mathlib.Core.Path.{_≡_, refl, sym, _∙_, ap}
+use mathlib.Core.Path.{_≡_, refl}
 use mathlib.Core.Bool.{Bool, true, false, cond, not}
-use Prim.Native.Nat.{ℕ, zero, suc, _-_, _≤_, _<_}
+use Prim.Native.Nat.{ℕ, _-_, _≤_, _<_}
 use native.Mathlib.Omega.{arith}
-use lib.Dec.{T, eqb, ltb}
+use lib.Dec.{eqb, ltb}
 use borrow.Author.Tests.{eq-eqb, ne-eqb, lt-ltb, le-ltb, eqb-true, eqb-false, ltb-true}
 use Rattle.paging.specs.declared.Walk.{Walk}
-use Rattle.paging.specs.declared.Step.{Step}
 use Rattle.paging.specs.declared.Step.the-variants.{On, Absent, Beyond, Complete}
 use Rattle.paging.specs.Frame.{guest}
-use Rattle.paging.specs.Layout.{Layout, isPresent, frameOf, rightsOf}
-use Rattle.paging.specs.Walk.{meet, downTo, narrowed, step}
+use Rattle.paging.specs.Layout.{Layout, isPresent, frameOf}
+use Rattle.paging.specs.Walk.{downTo, narrowed, step}
 use Rattle.paging.proofs.Tests.{positive}
-use Rattle.paging.proofs.Rights.{meet-small}
 
 module _ (Y : Layout) (G : ℕ) (w : Walk) (e : ℕ) where
   pub step-complete : w .level ≡ 0 → step Y G w e ≡ Complete

@@ -1,5 +1,5 @@
 -- "Entries and requests", second paragraph: a walk, and what it does at an entry.
-use mathlib.Core.Bool.{Bool, cond, not}
+use mathlib.Core.Bool.{cond, not}
 use Prim.Native.Nat.{ℕ, _+_, _-_, _*_, min}
 use lib.Dec.{eqb, ltb}
 use Rattle.paging.specs.declared.Guest.{Guest}

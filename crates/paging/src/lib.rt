@@ -1,7 +1,7 @@
 // The words of the trade: requests, entries, walks, guest and host frames.
 // Every shift and mask of the project stands here. Callers speak of indices, frames, rights and steps.
 ghost use mathlib.Core.Path.{_≡_};
-ghost use Prim.Native.Nat.{ℕ, _<_, _≤_, _^_};
+ghost use Prim.Native.Nat.{_<_, _≤_, _^_};
 ghost use lib.ListN.{length};
 ghost use Rattle.paging.specs.Numbers.{isBetween};
 ghost use Rattle.paging.specs.Frame.{hostOf, originOf, isNew, mapFits, notedAt, Noted, cr3sFit};

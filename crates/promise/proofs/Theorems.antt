@@ -10,7 +10,7 @@ use Rattle.paging.specs.Layout.{Layout, pageOf}
 use Rattle.paging.specs.Request.{requestOf}
 use Rattle.rules.specs.declared.Event.{Event}
 use Rattle.rules.specs.History.{Fit, eventAt}
-use Rattle.tables.specs.State.{Machine, State}
+use Rattle.tables.specs.State.{State}
 use Rattle.tables.proofs.Counts.{by-cases}
 use Rattle.shadow.specs.declared.Answer.the-variants.{Address, Again}
 use Rattle.shadow.specs.After.{after}

@@ -7,7 +7,7 @@ use native.Mathlib.Omega.{arith}
 use lib.ListN.{length, drop, getD, set, drop-of-length-le, length-drop}
 use lib.Seq.{drop-cons}
 use Rattle.cursor.specs.Text.{digitsOf}
-use Rattle.render.specs.Render.{numbers, line}
+use Rattle.render.specs.Render.{numbers}
 use Rattle.render.specs.Written.{Out, outOf, written}
 use Rattle.render.specs.Lines.{pairLine, pairLines}
 use Rattle.render.proofs.Writes.{written-append}

@@ -1,17 +1,15 @@
 -- Events that change nothing can be put in or taken out. First of views, where φ n is the moment of the shorter history
 -- at which moment n of the longer one stands; then of histories without the events that fail a test.
-use mathlib.Core.Path.{_≡_, refl, sym, _∙_, ap, ap₂}
+use mathlib.Core.Path.{_≡_, refl, sym, _∙_, ap}
 use mathlib.Core.Logic.{_↔_, _⊎_, inl, inr, Iff·trans, Iff·symm}
 use mathlib.Core.Bool.{Bool, true, false, cond, not, _&&_, _||_}
 use mathlib.Core.List.{List, [], _∷_}
-use Prim.Native.Nat.{ℕ, zero, suc, _≤_, _<_}
+use Prim.Native.Nat.{ℕ, zero, suc}
 use native.Mathlib.Omega.{arith}
 use lib.Dec.{T, eqb}
-use lib.ListN.{length, getD}
+use lib.ListN.{length}
 use Rattle.paging.specs.declared.Walk.{Walk}
 use Rattle.paging.specs.declared.Request.{Request}
-use Rattle.paging.specs.declared.Step.{Step}
-use Rattle.paging.specs.declared.Step.the-variants.{On}
 use Rattle.paging.specs.Layout.{pageOf, get, index}
 use Rattle.paging.specs.Request.{requestOf}
 use Rattle.paging.specs.Walk.{start, step}
@@ -24,7 +22,7 @@ use Rattle.rules.specs.View.{View, viewOf}
 use Rattle.rules.specs.Outcome.{Permitted, RightList, RightAt}
 use Rattle.rules.proofs.Order.{keep}
 use Rattle.rules.proofs.Views.{Coherent, coherent}
-use Rattle.rules.proofs.Steps.{Kept, begin, extend, stay, ends, byLevel, never, held-is-kept}
+use Rattle.rules.proofs.Steps.{Kept, begin, extend, stay, ends, never, held-is-kept}
 
 module _ (short long : View) (φ : ℕ → ℕ) where
   -- event n + 1 of the longer history ends nothing, or it is the next one of the shorter

@@ -1,15 +1,13 @@
 -- What an event that is not refused is known to be: each test of its table is not met.
-use mathlib.Core.Path.{_≡_, refl, sym, _∙_, ap}
-use mathlib.Core.Bool.{Bool, true, false, cond, not, _&&_, _||_}
+use mathlib.Core.Path.{_≡_, refl}
+use mathlib.Core.Bool.{Bool, true, false, cond}
 use mathlib.Core.List.{List, [], _∷_}
-use Prim.Native.Nat.{ℕ, _*_, _≤_, _<_}
+use Prim.Native.Nat.{_<_}
 use native.Mathlib.Omega.{arith}
-use lib.Dec.{eqb, ltb, leb}
 use borrow.Author.Tests.{leb-false}
-use Rattle.paging.specs.Layout.{frameWords}
 use Rattle.rules.specs.declared.Event.{Event}
 use Rattle.rules.specs.Refusal.{Test, refusal}
-use Rattle.rules.specs.History.{Setup, isStore, isCr3Write, eventTests, eventRefusal}
+use Rattle.rules.specs.History.{Setup, isCr3Write, eventTests, eventRefusal}
 
 -- no test of the table is met
 abbrev pub Clear : List Test → Type 0

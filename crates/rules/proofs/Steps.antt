@@ -1,7 +1,7 @@
 -- The held walks from moment to moment: begin, extend, stay. The rule by moments says the same, in both directions.
 use mathlib.Core.Path.{_≡_, refl, sym, _∙_, ap}
 use mathlib.Core.Logic.{_↔_, _⊎_, inl, inr}
-use mathlib.Core.Bool.{Bool, true, false, not}
+use mathlib.Core.Bool.{Bool, not}
 use Prim.Native.Nat.{ℕ, zero, suc, _≤_, _<_}
 use native.Mathlib.Omega.{arith}
 use native.Mathlib.Decide.{le-ind, ℕ-discrete}
@@ -10,7 +10,7 @@ use Rattle.paging.specs.declared.Walk.{Walk}
 use Rattle.paging.specs.declared.Step.the-variants.{On}
 use Rattle.rules.specs.View.{View, Quiet}
 use Rattle.rules.specs.Held.{Reads, begun, read, Held, partial, complete}
-use Rattle.rules.proofs.Views.{Coherent, Down}
+use Rattle.rules.proofs.Views.{Coherent}
 
 -- level 0 is that of complete walks, the others are those of partial ones
 abbrev pub byLevel : Bool → Bool → ℕ → Bool

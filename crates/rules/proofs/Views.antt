@@ -1,27 +1,23 @@
 -- What the theorems ask of a view, and that the view of a history has it.
-use mathlib.Core.Path.{_≡_, refl, sym, _∙_, ap}
-use mathlib.Core.Logic.{_⊎_, inl, inr}
-use mathlib.Core.Bool.{Bool, true, false, cond, not, _&&_, _||_}
+use mathlib.Core.Path.{_≡_, refl, ap}
+use mathlib.Core.Bool.{Bool, true, false, cond, not, _&&_}
 use mathlib.Core.List.{List}
-use Prim.Native.Nat.{ℕ, zero, suc, _-_, _≤_, _<_}
+use Prim.Native.Nat.{ℕ, zero, suc, _-_, _<_}
 use native.Mathlib.Omega.{arith}
 use native.Mathlib.Decide.{decLt}
-use lib.Dec.{T, T-not, eqb, eqb→eq}
-use lib.ListN.{length, getD, List·getD-eq-default}
+use lib.Dec.{T, T-not, eqb→eq}
+use lib.ListN.{length, List·getD-eq-default}
 use Rattle.paging.specs.declared.Walk.{Walk}
-use Rattle.paging.specs.declared.Step.{Step}
-use Rattle.paging.specs.declared.Step.the-variants.{On, Absent, Beyond, Complete}
-use Rattle.paging.specs.declared.Guest.{Guest}
+use Rattle.paging.specs.declared.Step.the-variants.{On, Complete}
 use Rattle.paging.specs.Frame.{guest}
-use Rattle.paging.specs.Layout.{Layout, get, index, rightsOf}
-use Rattle.paging.specs.Walk.{start, step}
+use Rattle.paging.specs.Layout.{rightsOf}
+use Rattle.paging.specs.Walk.{start}
 use Rattle.paging.proofs.Steps.{Goes, step-complete, goes, completed}
 use Rattle.paging.proofs.Layouts.{Sound}
 use Rattle.paging.proofs.Rights.{meet-small}
 use Rattle.paging.proofs.Tests.{T-true, and-l, and-r}
 use Rattle.rules.specs.declared.Event.{Event}
-use Rattle.rules.specs.Refusal.{refusal}
-use Rattle.rules.specs.History.{Setup, Fit, isBy, isCr3Write, isInvlpg, eventAt, eventRefusal, eventTests, wordsAt, cr3At, loaded}
+use Rattle.rules.specs.History.{Setup, Fit, isBy, isCr3Write, eventAt, cr3At}
 use Rattle.rules.specs.View.{View, viewOf}
 use Rattle.rules.proofs.Ranges.{cr3-within}
 

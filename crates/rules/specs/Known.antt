@@ -1,5 +1,4 @@
 -- "Known puzzles": the starred ones as one table, and a second table of sides that the starred ones do not see.
-use mathlib.Core.Bool.{Bool}
 use mathlib.Core.List.{List, [], _∷_, _++_}
 use Prim.Native.Nat.{ℕ, _+_, _-_, _*_, _^_}
 use lib.ListN.{length, set, replicate}

@@ -2,22 +2,21 @@
 use mathlib.Core.Path.{_≡_, refl, sym, ap, _∙_}
 use mathlib.Core.Bool.{Bool, true, false, cond, not, _&&_, _||_, Bool·beq}
 use mathlib.Core.List.{List, [], _∷_, _++_}
-use Prim.Native.Nat.{ℕ, zero, suc, _+_, _-_, _*_, _/_, _%_, _^_, _<_, _≤_}
+use Prim.Native.Nat.{ℕ, zero, suc, _+_, _-_, _*_, _^_, _<_, _≤_}
 use native.Mathlib.Omega.{arith}
 use lib.Dec.{eqb, ltb, leb}
 use lib.ListN.{length, getD}
-use borrow.Author.Tests.{eq-eqb, ne-eqb, lt-ltb, le-ltb, eqb-true, eqb-false, ltb-true, ltb-false, leb-true, leb-false, not-false}
-use Rattle.paging.specs.Layout.{frameWords, tables64}
+use borrow.Author.Tests.{eq-eqb, lt-ltb, le-ltb, eqb-true, ltb-true, ltb-false, leb-true, leb-false, not-false}
+use Rattle.paging.specs.Layout.{frameWords}
 use Rattle.paging.specs.Frame.{mapFits}
 use Rattle.paging.specs.Numbers.{all}
 use Rattle.paging.proofs.Numbers.{all-at}
 use Rattle.paging.proofs.Tests.{both}
 use Rattle.rules.specs.declared.Event.{Event}
 use Rattle.rules.specs.Refusal.{Test, test, refusal}
-use Rattle.rules.specs.History.{isStore, isInvlpg, isCr3Write, isAccess, isBegin, isExtend, isDrop, eventTests, eventRefusal}
+use Rattle.rules.specs.History.{isStore, isCr3Write, isAccess, isBegin, isExtend, isDrop, eventTests, eventRefusal}
 use Rattle.rules.proofs.Ranges.{Clear, clear, event-clear}
 use Rattle.tables.specs.declared.Sizes.{Sizes}
-use Rattle.tables.specs.declared.Path.{Path}
 use Rattle.tables.specs.State.{Machine, Shadow, State, machine64, tableCount, rootOf, entryCount, entryOf, levelOf, shadows, isFree, markOf, pageIn, placeIn, rightsIn, pathTo, Sized}
 use Rattle.tables.proofs.Names.{few, root-small}
 use Rattle.lawful.specs.Rules.{lawful, tableRight, tableWhole, recordRight, entryRight, isRoot, namesOf, slotRight, isOnPath}

@@ -1,5 +1,5 @@
 -- A fill, by whether enough tables are free once it has settled.
-use mathlib.Core.Path.{_≡_, refl, sym, ap, ap₂, _∙_}
+use mathlib.Core.Path.{_≡_, refl, ap, ap₂, _∙_}
 use mathlib.Core.Bool.{Bool, true, false, cond}
 use mathlib.Core.List.{List}
 use Prim.Native.Nat.{ℕ, zero, suc, _+_, _-_, _^_, _<_, _≤_}
@@ -11,7 +11,7 @@ use Rattle.paging.specs.Frame.{guest}
 use Rattle.paging.specs.Layout.{tables64, index, frameOf}
 use Rattle.tables.specs.declared.Sizes.{Sizes}
 use Rattle.tables.specs.declared.Spot.{Spot}
-use Rattle.tables.specs.State.{Machine, Shadow, shadowOf, State, stateOf, shadows, machine64, tableCount, rootOf, entryOf, named, SpotFits}
+use Rattle.tables.specs.State.{Machine, Shadow, State, stateOf, shadows, machine64, tableCount, rootOf, entryOf, named, SpotFits}
 use Rattle.tables.specs.Steps.{Settled, settledAt, spot, cut, guestEntry, agrees, settle, build, freeCount, emptyShare, emptySlots, flush}
 use Rattle.tables.proofs.Names.{frame-small}
 use Rattle.tables.proofs.Fills.{agrees-named}

@@ -1,14 +1,13 @@
 -- Which move an event's kind decodes to.
-use mathlib.Core.Path.{_≡_, refl, sym, ap, _∙_}
+use mathlib.Core.Path.{_≡_, refl, sym, ap}
 use mathlib.Core.Bool.{cond}
 use mathlib.Core.List.{List}
 use Prim.Native.Nat.{ℕ, zero, suc, _≤_}
 use native.Mathlib.Omega.{arith}
 use lib.Dec.{eqb}
-use borrow.Author.Tests.{ne-eqb}
 use Rattle.rules.specs.declared.Event.{Event}
 use Rattle.tables.specs.State.{Machine, State}
-use Rattle.shadow.specs.After.{Result, Move, store, invlpg, writeCr3, access, begin, extend, drop, decode, moved, afterStore, afterInvlpg, afterCr3, afterAccess, afterBegin, afterExtend, afterDrop}
+use Rattle.shadow.specs.After.{Move, store, invlpg, writeCr3, access, begin, extend, drop, decode, moved, afterStore, afterInvlpg, afterCr3, afterAccess, afterBegin, afterExtend, afterDrop}
 
 abbrev byKind : ℕ → ℕ → ℕ → Move
 byKind k a b =

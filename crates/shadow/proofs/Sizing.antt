@@ -1,9 +1,8 @@
 -- What the tests of sizes and frames say once they are passed.
-use mathlib.Core.Path.{_≡_, sym, ap, _∙_}
-use mathlib.Core.Bool.{true, not, _&&_}
+use mathlib.Core.Path.{_≡_}
+use mathlib.Core.Bool.{true, _&&_}
 use mathlib.Core.List.{List}
-use mathlib.Core.Logic.{⊎-elim}
-use Prim.Native.Nat.{ℕ, zero, suc, _+_, _*_, _^_, _<_, _≤_}
+use Prim.Native.Nat.{ℕ, _+_, _*_, _^_, _<_, _≤_}
 use native.Mathlib.Nat.{mul-le-mul}
 use native.Mathlib.Decide.{decLt}
 use native.Mathlib.Omega.{arith}
@@ -12,12 +11,12 @@ use lib.ListN.{length, getD, List·getD-eq-default}
 use borrow.Author.Tests.{leb-true, ltb-true, eqb-true}
 use Rattle.paging.specs.Frame.{isNew, mapFits}
 use Rattle.paging.specs.Layout.{frameWords}
-use Rattle.paging.specs.Numbers.{all, isBetween}
+use Rattle.paging.specs.Numbers.{isBetween}
 use Rattle.paging.proofs.Tests.{both}
 use Rattle.paging.proofs.Numbers.{all-at, between}
 use Rattle.tables.specs.declared.Sizes.{Sizes}
 use Rattle.tables.specs.State.{Machine, Shadow, machine64, tableCount, Sized}
-use Rattle.shadow.specs.After.{rangesFit, lengthsFit, poolFits, inPool, framesFit}
+use Rattle.shadow.specs.After.{rangesFit, lengthsFit, poolFits}
 
 pub record Ranged (M : Machine) : Type 0 where
   pub frames : (1 ≤ M .frames) × (M .frames ≤ 256)

@@ -1,22 +1,21 @@
 -- The number of a setup, test by test; and what is known of one that is accepted.
-use mathlib.Core.Path.{_≡_, refl, sym, ap, ap₂, _∙_}
-use mathlib.Core.Bool.{Bool, true, false, cond, not, _&&_}
-use mathlib.Core.List.{List, [], _∷_, _++_}
-use Prim.Native.Nat.{ℕ, _+_, _*_, _^_, _<_, _≤_}
+use mathlib.Core.Path.{_≡_, sym, ap, _∙_}
+use mathlib.Core.Bool.{Bool, true, false, not, _&&_}
+use mathlib.Core.List.{List, [], _∷_}
+use Prim.Native.Nat.{ℕ, _+_, _^_, _≤_}
 use native.Mathlib.Omega.{arith}
 use lib.Dec.{eqb}
 use lib.ListN.{length, getD, replicate}
 use borrow.Author.Tests.{eq-eqb, ne-eqb, eqb-true, not-false}
-use Rattle.paging.specs.Layout.{frameWords}
 use Rattle.paging.specs.Frame.{mapFits, cr3sFit}
 use Rattle.paging.specs.Numbers.{all}
 use Rattle.paging.proofs.Tests.{both}
-use Rattle.rules.specs.Refusal.{Test, test, refusal}
-use Rattle.rules.proofs.Ranges.{Clear, clear}
+use Rattle.rules.specs.Refusal.{test, refusal}
+use Rattle.rules.proofs.Ranges.{clear}
 use Rattle.tables.specs.declared.Sizes.{Sizes}
-use Rattle.tables.specs.State.{Machine, Shadow, shadowOf, State, stateOf, machine64, tableCount, Sized, Room}
+use Rattle.tables.specs.State.{Machine, shadowOf, State, stateOf, machine64, tableCount, Sized}
 use Rattle.shadow.specs.declared.Answer.the-variants.{Done, Refused}
-use Rattle.shadow.specs.After.{gives, rangesFit, lengthsFit, poolFits, inPool, framesFit, rooted, started, setupRefusal, afterSetup}
+use Rattle.shadow.specs.After.{gives, rangesFit, lengthsFit, poolFits, inPool, framesFit, rooted, setupRefusal, afterSetup}
 use Rattle.shadow.proofs.Sizing.{Ranged, ranged, pool-room, Exact, exact}
 use Rattle.shadow.proofs.Accepted.{first-two, neither}
 

@@ -1,7 +1,7 @@
 -- How a walk of the guest's tables ends: its last table and its rights are in range, and so is a fault's code. And what
 -- a miss does once the walk has ended.
-use mathlib.Core.Path.{_≡_, refl, sym, ap, ap₂, _∙_}
-use mathlib.Core.Bool.{Bool, true, false, cond}
+use mathlib.Core.Path.{_≡_, refl, sym, ap, _∙_}
+use mathlib.Core.Bool.{true, false}
 use mathlib.Core.List.{List}
 use Prim.Native.Nat.{ℕ, zero, suc, _+_, _-_, _<_, _≤_}
 use native.Mathlib.Omega.{arith}
@@ -14,10 +14,10 @@ use Rattle.paging.specs.Layout.{Layout, get, put, index, withA, rightsOf}
 use Rattle.paging.specs.Request.{enough}
 use Rattle.paging.specs.Walk.{start, step}
 use Rattle.paging.proofs.Rights.{meet-small}
-use Rattle.paging.proofs.Steps.{Goes, goes}
+use Rattle.paging.proofs.Steps.{goes}
 use Rattle.tables.specs.declared.Walked.{Walked}
 use Rattle.tables.specs.declared.Walked.the-variants.{Whole, Fault}
-use Rattle.tables.specs.State.{Machine, Shadow, State, stateOf, shadows, rootOf}
+use Rattle.tables.specs.State.{Machine, State, stateOf, shadows, rootOf}
 use Rattle.tables.specs.Steps.{GuestWalk, guestWalk, byStep, walkFrom, walkGuest}
 use Rattle.shadow.specs.declared.Answer.the-variants.{Fault as Faulted, Again}
 use Rattle.shadow.specs.After.{Result, gives, dirtied, fill, afterWalk, afterMiss}

@@ -1,5 +1,5 @@
 -- "What each event does", and the refusals of setup and of the event call.
-use mathlib.Core.Bool.{Bool, cond, not, _&&_, _||_}
+use mathlib.Core.Bool.{Bool, cond, not, _&&_}
 use mathlib.Core.List.{List, [], _∷_, _++_}
 use Prim.Native.Nat.{ℕ, _+_, _-_, _*_, _%_, _^_}
 use lib.Dec.{eqb, ltb, leb}
@@ -14,14 +14,13 @@ use Rattle.paging.specs.Layout.{Layout, frameWords, bit, get, put, index, pageO
 use Rattle.paging.specs.Walk.{meet}
 use Rattle.paging.specs.Request.{requestOf, enough}
 use Rattle.rules.specs.declared.Event.{Event}
-use Rattle.rules.specs.Refusal.{Test, test, refusal}
+use Rattle.rules.specs.Refusal.{test, refusal}
 use Rattle.rules.specs.History.{Setup, isStore, isInvlpg, isCr3Write, isAccess, isBegin, isExtend, eventTests}
-use Rattle.tables.specs.declared.Spot.{Spot}
 use Rattle.tables.specs.declared.Walked.{Walked}
 use Rattle.tables.specs.declared.Walked.the-variants.{Whole, Fault}
 use Rattle.paging.specs.Numbers.{all, each, isBetween}
 use Rattle.tables.specs.State.{Machine, Shadow, shadowOf, onPool, onRecords, State, stateOf, shadows, withRecord, slotCount, markOf, pageIn, placeIn, rightsIn, withSlot, emptied, tableCount, rootOf, entryOf, withEntry, named, nextEntry, pathTo}
-use Rattle.tables.specs.Steps.{servingSlot, flush, emptySlots, walkGuest, emptyShare, freeCount, settle, Settled, build}
+use Rattle.tables.specs.Steps.{servingSlot, flush, emptySlots, walkGuest, emptyShare, freeCount, settle, build}
 use Rattle.shadow.specs.declared.Answer.{Answer}
 use Rattle.shadow.specs.declared.Answer.the-variants.{Done, Address, Fault as Faulted, Again, NoStep, Refused}
 use Rattle.shadow.specs.declared.Place.{Place}

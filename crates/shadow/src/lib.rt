@@ -10,7 +10,7 @@ ghost use Rattle.rules.specs.Refusal.{test, refusal};
 ghost use Rattle.paging.specs.Layout.{tables64, rightsOf, isPresent};
 ghost use Rattle.paging.specs.Request.{enough};
 ghost use Rattle.paging.specs.Walk.{meet};
-ghost use Rattle.tables.specs.State.{Shadow, shadowOf, State, stateOf, machine64, Sized, Room};
+ghost use Rattle.tables.specs.State.{Shadow, shadowOf, stateOf, machine64, Sized, Room};
 ghost use Rattle.shadow.specs.After.{refusalOf, kindOf, valueOf, gives, afterStore, leafCleared, afterInvlpg, afterCr3, afterBegin, placeBelow, afterExtend, afterDrop, valueAt, dirtied, fill, afterMiss, afterAccess, decode, moved, rangesFit, lengthsFit, poolFits, inPool, framesFit, callRefusal, after, rooted, setupRefusal, afterSetup};
 ghost use Rattle.shadow.specs.Ready.{Ready, Standing, Fitting};
 use paging::Guest;

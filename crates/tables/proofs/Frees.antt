@@ -1,21 +1,18 @@
 -- Freeing, turn by turn: the entries below i of a table are cut.
-use mathlib.Core.Path.{_≡_, refl, sym, ap, _∙_}
-use mathlib.Core.Bool.{cond}
+use mathlib.Core.Path.{_≡_, sym, ap, _∙_}
 use mathlib.Core.List.{List}
 use Prim.Native.Nat.{ℕ, zero, suc, _+_, _-_, _<_, _≤_}
-use native.Mathlib.Numerals.{add-one, sub-one}
+use native.Mathlib.Numerals.{sub-one}
 use native.Mathlib.Omega.{arith}
-use lib.Dec.{ltb}
-use lib.ListN.{length, length-set}
+use lib.ListN.{length}
 use borrow.Author.Tests.{lt-ltb, le-ltb}
 use Rattle.paging.specs.Frame.{guest}
 use Rattle.paging.specs.Layout.{tables64, get, put}
-use Rattle.paging.proofs.Layouts.{tables64-sound, length-put}
 use Rattle.tables.specs.declared.Sizes.{Sizes}
 use Rattle.paging.specs.Numbers.{each}
 use Rattle.tables.specs.State.{Machine, Shadow, shadowOf, onPool, onRecords, machine64, withRecord, withEntry, tableCount, named, Room}
 use Rattle.tables.specs.Steps.{cut, freeTable}
-use Rattle.paging.proofs.Numbers.{each-none, each-more}
+use Rattle.paging.proofs.Numbers.{each-more}
 
 -- a table with no level is as it is
 pub table-none : (M : Machine) (l t : ℕ) (s : Shadow) → l ≡ 0 → s ≡ freeTable M l t s

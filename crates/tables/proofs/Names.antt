@@ -1,14 +1,12 @@
 -- What an entry names, by the tests on the way; and how large the numbers of tables, frames and roots can be.
-use mathlib.Core.Path.{_≡_, refl, sym, ap, _∙_}
+use mathlib.Core.Path.{_≡_, refl}
 use mathlib.Core.Bool.{Bool, true, false, cond, _&&_}
-use Prim.Native.Nat.{ℕ, _+_, _-_, _*_, _^_, _<_, _≤_}
-use native.Mathlib.Nat.{mod-lt, mul-le-mul, mul-lt-mul-of-pos-right}
+use Prim.Native.Nat.{ℕ, _-_, _^_, _<_, _≤_}
+use native.Mathlib.Nat.{mul-le-mul, mul-lt-mul-of-pos-right}
 use native.Mathlib.Omega.{arith}
 use lib.Dec.{ltb, leb}
-use lib.Pow.{pow-pos}
 use borrow.Author.Tests.{lt-ltb, le-ltb, le-leb, lt-leb, ltb-true}
-use Rattle.paging.specs.Layout.{tables64, index, frameOf, isPresent}
-use Rattle.paging.proofs.Indices.{index-small}
+use Rattle.paging.specs.Layout.{tables64, frameOf, isPresent}
 use Rattle.tables.specs.declared.Sizes.{Sizes}
 use Rattle.tables.specs.State.{Machine, machine64, tableCount, rootOf, named, Sized}
 

@@ -2,16 +2,16 @@
 use mathlib.Core.Path.{_≡_, refl, sym, ap, ap₂, _∙_}
 use mathlib.Core.Bool.{Bool, true, false, cond, _&&_}
 use mathlib.Core.List.{List}
-use mathlib.Core.Logic.{_⊎_, inl, inr, ⊎-elim}
+use mathlib.Core.Logic.{_⊎_, ⊎-elim}
 use Prim.Native.Nat.{ℕ, zero, suc, _+_, _*_, _<_, _≤_}
 use native.Mathlib.Nat.{eq-or-lt-of-le}
 use native.Mathlib.Decide.{ℕ-discrete}
 use native.Mathlib.Omega.{arith}
 use lib.Dec.{eqb}
-use lib.ListN.{getD, set}
+use lib.ListN.{set}
 use lib.Seq.{getD-set-other}
 use Rattle.paging.specs.declared.Guest.{Guest}
-use Rattle.paging.specs.Numbers.{sum, count, firstFrom, first}
+use Rattle.paging.specs.Numbers.{sum, count, firstFrom}
 use Rattle.tables.specs.State.{Machine, tableCount, owns, withRecord, levelOf}
 use Rattle.tables.specs.Steps.{mayTake, freeCount, taken}
 

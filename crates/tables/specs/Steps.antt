@@ -8,7 +8,7 @@ use Rattle.paging.specs.declared.Walk.{Walk}
 use Rattle.paging.specs.declared.Step.{Step}
 use Rattle.paging.specs.declared.Step.the-variants.{On, Absent, Beyond, Complete}
 use Rattle.paging.specs.Frame.{guest, hostOf}
-use Rattle.paging.specs.Layout.{Layout, bit, get, put, index, frameOf, rightsOf, compose, withA, withD}
+use Rattle.paging.specs.Layout.{Layout, bit, get, put, index, frameOf, rightsOf, compose, withA}
 use Rattle.paging.specs.declared.Request.{Request}
 use Rattle.paging.specs.Request.{enough}
 use Rattle.paging.specs.Walk.{meet, start, step}

@@ -1,13 +1,11 @@
 // The shadow tables of all processors: what an entry and a record say, and the steps that events are made of.
 ghost use mathlib.Core.Path.{_≡_};
-ghost use mathlib.Core.Bool.{_&&_};
 ghost use Prim.Native.Nat.{ℕ, _+_, _-_, _*_, _^_, _<_, _≤_};
 ghost use lib.ListN.{length, getD};
-ghost use lib.Dec.{eqb};
 ghost use Rattle.paging.specs.Frame.{hostOf};
-ghost use Rattle.paging.specs.Layout.{tables64, get, put, index, frameOf, rightsOf};
-ghost use Rattle.paging.specs.Walk.{meet, start};
-ghost use Rattle.tables.specs.State.{Sized, Room, SpotFits, machine64, shadowOf, levelOf, shadows, withRecord, tableCount, ownerOf, rootOf, owns, named, down, pathTo};
+ghost use Rattle.paging.specs.Layout.{tables64, get, put};
+ghost use Rattle.paging.specs.Walk.{meet};
+ghost use Rattle.tables.specs.State.{Sized, Room, SpotFits, machine64, shadowOf, levelOf, shadows, withRecord, tableCount, ownerOf, rootOf, named, down, pathTo};
 ghost use Rattle.tables.specs.Steps.{freeTable, cut, zeroed, emptyOwn, emptyShare, mayTake, freeCount, taken, hang, hangNext, leafOf, walkGuest, guestWalk, guestEntry, agrees, settle, settledAt, build};
 use paging::Guest;
 use paging::Host;

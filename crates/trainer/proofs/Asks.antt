@@ -1,9 +1,9 @@
 -- What the list call leaves is the right list, and its pairs are written as the rendering says.
-use mathlib.Core.Path.{_≡_, refl, sym, ap, ap₂, _∙_, subst}
+use mathlib.Core.Path.{_≡_, refl, ap, ap₂, _∙_, subst}
 use mathlib.Core.Logic.{_⊎_, inl, inr}
 use mathlib.Core.Bool.{Bool, true, false, cond}
 use mathlib.Core.List.{List, [], _∷_, _++_, List·Memᴰ, List·Memᴰ·head, List·Memᴰ·tail, List·Memᴰ·cases-cons, List·Memᴰ·not-nil}
-use Prim.Native.Nat.{ℕ, zero, suc, _+_, _*_, _/_, _^_, _≤_, _<_}
+use Prim.Native.Nat.{ℕ, zero, suc, _+_, _*_, _/_, _^_, _<_}
 use native.Mathlib.Omega.{arith}
 use lib.ListN.{length, take, drop, getD, replicate, length-append, length-drop, length-replicate}
 use lib.Seq.{take-at}
@@ -24,7 +24,7 @@ use Rattle.rules.specs.Outcome.{given}
 use Rattle.rules.proofs.Steps.{held-is-kept, kept-inside}
 use Rattle.rules.proofs.Theorems.{view-coherent, view-rooted}
 use Rattle.listing.specs.declared.Listed.{Listed}
-use Rattle.listing.specs.Call.{Asked, Lent, asked, lent, countOf, listRefusal, pairs, ListCall}
+use Rattle.listing.specs.Call.{Asked, Lent, asked, lent, countOf, pairs, ListCall}
 use Rattle.rules.specs.Numbers.{eventsOf}
 use Rattle.listing.proofs.Pairs.{pairs-length}
 use Rattle.listing.proofs.Accepts as accepts

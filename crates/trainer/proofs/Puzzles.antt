@@ -1,37 +1,30 @@
 -- What an accepted text stands for: the list call takes each of its questions, and its lists stand in front of the buffers.
-use mathlib.Core.Path.{_≡_, refl, sym, ap, ap₂, _∙_, subst, subst⁻¹}
-use mathlib.Core.Bool.{Bool, true, false, cond, not, _&&_}
-use mathlib.Core.List.{List, [], _∷_, _++_}
+use mathlib.Core.Path.{_≡_, refl, _∙_}
+use mathlib.Core.Bool.{Bool, true, not, _&&_}
+use mathlib.Core.List.{List, [], _∷_}
 use Prim.Native.Nat.{ℕ, zero, suc, _+_, _*_, _/_, _%_, _^_, _≤_, _<_}
-use native.Mathlib.Numerals.{add-one}
 use native.Mathlib.Omega.{arith}
 use lib.Dec.{eqb, ltb, leb}
-use lib.ListN.{length, take, drop, getD, length-append}
-use lib.Seq.{take-append-seam}
+use lib.ListN.{length, getD}
 use borrow.Author.Tests.{eq-eqb, ne-eqb, lt-ltb, lt-leb, le-leb, leb-true}
 use Rattle.paging.specs.Numbers.{all}
 use Rattle.paging.specs.Frame.{isNew, mapFits, cr3sFit}
-use Rattle.paging.specs.Layout.{frameWords}
-use Rattle.paging.proofs.Numbers.{between, all-none, all-more}
-use Rattle.rules.specs.declared.Question.{Question}
+use Rattle.paging.proofs.Numbers.{between}
 use Rattle.rules.specs.History.{eventRefusal}
 use Rattle.rules.specs.Outcome.{questionRefusal}
 use Rattle.listing.specs.Call.{Asked, Lent, asked, lent, setupAsked, sizesFit, firstRefusal, listRefusal}
 use Rattle.rules.specs.Numbers.{eventOf, questionOf}
-use Rattle.listing.proofs.Refuses.{or-second, first-none, first-more, list-later}
-use Rattle.sections.specs.Sections.{Got, got, refused, Puzzle, puzzleOf}
-use Rattle.puzzle.specs.declared.ReadResult.{ReadResult}
-use Rattle.puzzle.specs.declared.ReadResult.the-variants.{Accepted, Refused}
-use Rattle.puzzle.specs.Buffers.{Buffers, buffers, After, after, laid, wordsOf, filled, countsOf, answer, readCall}
-use Rattle.puzzle.specs.Parts.{Lengths}
+use Rattle.listing.proofs.Refuses.{or-second, list-later}
+use Rattle.sections.specs.Sections.{got, Puzzle, puzzleOf}
+use Rattle.puzzle.specs.Buffers.{wordsOf}
 use Rattle.puzzle.proofs.Accepted.{InRange, accepted}
 use Rattle.puzzle.proofs.Theorems as reads
 use Rattle.tables.specs.State.{machine64, shadowOf, stateOf}
 use Rattle.shadow.specs.After as machine
 use Rattle.rules.specs.Refusal.{test, refusal}
-use Rattle.trainer.specs.Call.{posed, puzzleIn}
+use Rattle.trainer.specs.Call.{posed}
 use Rattle.trainer.specs.Run.{sizesOf}
-use Rattle.trainer.specs.Parts.{Posed, Startable, Printable, Counts, cut}
+use Rattle.trainer.specs.Parts.{Posed, Startable, Printable}
 
 all-each : (n : ℕ) (f : ℕ → Bool) → ((k : ℕ) → k < n → f k ≡ true) → all n f ≡ true
 unfolding all

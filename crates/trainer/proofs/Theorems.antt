@@ -1,14 +1,14 @@
 -- What is proved of `answers` and `run`. Their promises are `AnswersCall` and `RunCall` in specs/; the functions in src/ are proved to keep them.
 use mathlib.Core.Path.{_≡_, sym, ap, _∙_}
 use mathlib.Core.List.{List, [], _++_}
-use Prim.Native.Nat.{ℕ, _*_, _/_, _<_}
+use Prim.Native.Nat.{ℕ, _/_, _<_}
 use native.Mathlib.Omega.{arith}
 use native.Mathlib.Decide.{ℕ-discrete}
 use lib.Dec.{leb}
 use lib.ListN.{length, drop}
 use Rattle.rules.specs.declared.Outcome.{Outcome}
 use Rattle.rules.specs.History.{setup64, eventAt, eventRefusal, Fit}
-use Rattle.rules.specs.Numbers.{eventOf, eventsOf, questionOf}
+use Rattle.rules.specs.Numbers.{eventsOf, questionOf}
 use Rattle.listing.proofs.Accepts.{event-at, events-length}
 use Rattle.tables.specs.State.{machine64, State}
 use Rattle.shadow.specs.After.{asSetup}

@@ -11,7 +11,6 @@ use Rattle.puzzle.specs.Buffers.{Buffers, buffers}
 use Rattle.rules.specs.Numbers.{eventsOf, questionOf}
 use Rattle.render.specs.Render.{renderQuestion}
 use Rattle.render.specs.Written.{outOf, written}
-use Rattle.tables.specs.declared.Sizes.{Sizes}
 use Rattle.tables.specs.State.{Machine, machine64, shadowOf, State, stateOf}
 use Rattle.shadow.specs.After.{setupRefusal, started}
 use Rattle.trainer.specs.declared.Program.{Program}

@@ -10,7 +10,6 @@ use Rattle.tables.specs.State.{Machine, machine64, State}
 use Rattle.shadow.specs.declared.Answer.{Answer}
 use Rattle.shadow.specs.After.{kindOf, valueOf, started}
 use Rattle.shadow.specs.Runs.{answerOf}
-use Rattle.puzzle.specs.Buffers.{Buffers}
 use Rattle.render.specs.Render.{renderEvent}
 use Rattle.trainer.specs.declared.Written.{Written}
 use Rattle.trainer.specs.Call.{joined, Lines, Call}

@@ -1,7 +1,6 @@
 -- Safe: both numbers of pair k lie inside.
 use Prim.Native.Nat.{_-_, _≤_}
 use native.Mathlib.Omega.{arith}
-use lib.ListN.{length}
 use Rattle.buffers.proofs.print_pairs.Statement.{statement}
 use Rattle.buffers.proofs.print_pairs.Tie as tie
 

@@ -1,19 +1,14 @@
 -- What is left to follow says the same at every turn; the level falls.
-use mathlib.Core.Path.{_≡_, refl, sym, _∙_, ap, subst}
-use Prim.Native.Nat.{ℕ, suc, _≤_}
+use mathlib.Core.Path.{_≡_, refl, sym, _∙_, ap}
+use Prim.Native.Nat.{ℕ}
 use native.Mathlib.Omega.{arith}
-use mathlib.Core.List.{List}
 use lib.ListN.{length, getD, set, length-set}
-use Rattle.held.specs.Work.{cell, workBytes, HasByte, Room}
+use Rattle.held.specs.Work.{cell, HasByte}
 use Rattle.held.specs.Follow.{followed}
 use Rattle.held.proofs.Cells.{cell-below}
 use Rattle.held.proofs.Follows.{below, follow-set, follow-new, follow-on, stops}
 use Rattle.held.proofs.follow.Statement.{statement}
 use Rattle.held.proofs.follow.Tie as tie
-use Rattle.held.proofs.follow.Reads as reads
-use Rattle.held.proofs.follow.Lts as lts
-use Rattle.held.proofs.cell_of.Reads as cell-of-reads
-use Rattle.held.proofs.next.Reads as next-reads
 use Rattle.paging.specs.Layout.{tables64}
 
 abbrev Inv-loop : tie.InvT-loop

@@ -1,12 +1,11 @@
 -- The walks with rights below r have been read again.
 use mathlib.Core.Path.{_≡_, refl, sym, _∙_, ap}
-use Prim.Native.Nat.{ℕ, _+_, _-_, _≤_}
+use Prim.Native.Nat.{ℕ, _-_, _≤_}
 use native.Mathlib.Omega.{arith}
 use mathlib.Core.List.{List}
 use lib.ListN.{length}
 use Rattle.paging.specs.Numbers.{each}
 use Rattle.paging.proofs.Numbers.{each-none, each-more}
-use Rattle.held.specs.Work.{Room}
 use Rattle.held.specs.Follow.{walkOf, reread, rereadAll}
 use Rattle.held.proofs.reread_all.Statement.{statement}
 use Rattle.held.proofs.reread_all.Tie as tie

@@ -1,5 +1,5 @@
 -- A page whose entry lies in another word is not touched.
-use mathlib.Core.Path.{_≡_, sym, _∙_}
+use mathlib.Core.Path.{sym, _∙_}
 use borrow.Author.Needs.{needs}
 use Rattle.held.proofs.Follows.{reread-elsewhere, reread-here, here-64, there-64}
 use Rattle.held.proofs.reread_at.Statement.{statement}

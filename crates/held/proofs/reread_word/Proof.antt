@@ -1,8 +1,7 @@
 -- What is left, the levels from `level` down, says the same at every turn.
 use mathlib.Core.Path.{_≡_, refl, sym, _∙_, ap}
-use Prim.Native.Nat.{ℕ, _≤_, _-_}
+use Prim.Native.Nat.{_≤_, _-_}
 use native.Mathlib.Omega.{arith}
-use mathlib.Core.List.{List}
 use lib.ListN.{length}
 use Rattle.held.specs.Follow.{rereadWord}
 use Rattle.held.proofs.Follows.{reread-turn, reread-done}

@@ -1,8 +1,7 @@
 -- A table asks its entries at its own level, and an entry the table that it names one level lower: the measure is twice
 -- the level, and one more for a table. The loop's invariant is `Checked`: the entries below i are whole.
 use Prim.Native.Nat.{ℕ, _+_, _-_, _<_}
-use mathlib.Core.Path.{_≡_, refl, ap, _∙_}
-use mathlib.Core.Bool.{Bool}
+use mathlib.Core.Path.{refl, ap, _∙_}
 use native.Mathlib.Omega.{arith}
 use borrow.Author.Tests.{not-true, not-false}
 use borrow.Fn.Kinds.{In}

@@ -1,5 +1,4 @@
 -- Each way out is one case of the level.
-use mathlib.Core.Path.{_≡_}
 use borrow.Author.Tests.{eq-eqb, ne-eqb}
 use borrow.Author.Needs.{needs}
 use Rattle.lawful.specs.Rules.{isLaidOut}

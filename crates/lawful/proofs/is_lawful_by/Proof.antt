@@ -1,5 +1,5 @@
 -- Tables, roots, slots, in this order.
-use mathlib.Core.Path.{_≡_, sym, _∙_}
+use mathlib.Core.Path.{sym, _∙_}
 use borrow.Author.Tests.{not-true, not-false}
 use Rattle.lawful.specs.Rules.{lawful}
 use Rattle.lawful.proofs.is_lawful_by.Statement.{statement}

@@ -1,5 +1,5 @@
 -- The frame stands where the hint says, or the search through the map finds a guest frame or none.
-use mathlib.Core.Path.{_≡_, sym, ap, _∙_}
+use mathlib.Core.Path.{sym, ap, _∙_}
 use native.Mathlib.Omega.{arith}
 use borrow.Author.Needs.{needs}
 use Rattle.lawful.specs.Rules.{isOf}

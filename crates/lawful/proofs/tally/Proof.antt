@@ -1,6 +1,6 @@
 -- The tables below t are counted.
 use mathlib.Core.Path.{_≡_, sym, _∙_}
-use Prim.Native.Nat.{ℕ, _-_, _≤_}
+use Prim.Native.Nat.{_-_, _≤_}
 use native.Mathlib.Omega.{arith}
 use Rattle.tables.specs.State.{machine64, tableCount}
 use Rattle.tables.proofs.Names.{few}

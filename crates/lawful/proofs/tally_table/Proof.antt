@@ -1,9 +1,8 @@
 -- The entries of t below i are counted.
 use mathlib.Core.Path.{_≡_, sym, ap, _∙_}
-use Prim.Native.Nat.{ℕ, _-_}
+use Prim.Native.Nat.{_-_}
 use native.Mathlib.Omega.{arith}
-use lib.ListN.{length}
-use Rattle.tables.specs.State.{machine64, tableCount, entryOf, named}
+use Rattle.tables.specs.State.{machine64, entryOf, named}
 use Rattle.tables.proofs.Names.{few}
 use Rattle.tables.proofs.Counts.{by-cases}
 use Rattle.lawful.proofs.Tallies.{Tallying, tally-begin, tally-end, tally-small, tally-hit, tally-miss}

@@ -1,11 +1,10 @@
 -- The frames below f have been written, at most f of them.
-use mathlib.Core.Path.{_≡_, refl, sym, ap, ap₂, _∙_}
+use mathlib.Core.Path.{_≡_, refl, sym, ap, _∙_}
 use mathlib.Core.Bool.{Bool}
 use mathlib.Core.List.{List}
 use Prim.Native.Nat.{ℕ, _-_, _≤_}
 use native.Mathlib.Omega.{arith}
 use lib.ListN.{length}
-use borrow.Author.Needs.{needs}
 use Rattle.paging.specs.declared.Request.{Request}
 use Rattle.paging.specs.Numbers.{each}
 use Rattle.paging.proofs.Numbers.{each-none, each-more}

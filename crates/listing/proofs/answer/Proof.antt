@@ -1,5 +1,5 @@
 -- Beginning, replaying and collecting, each by its own definition.
-use mathlib.Core.Path.{_≡_, sym, ap, ap₂, _∙_}
+use mathlib.Core.Path.{ap, ap₂, _∙_}
 use mathlib.Core.List.{List}
 use Prim.Native.Nat.{ℕ, _/_}
 use native.Mathlib.Omega.{arith}
@@ -7,12 +7,11 @@ use lib.ListN.{length}
 use borrow.Author.Needs.{needs}
 use Rattle.paging.specs.declared.Request.{Request}
 use Rattle.paging.specs.Frame.{guest}
-use Rattle.paging.specs.Layout.{tables64, pageOf}
-use Rattle.paging.specs.Request.{requestOf}
+use Rattle.paging.specs.Layout.{tables64}
 use Rattle.paging.proofs.Rights.{request-small}
 use Rattle.held.specs.Follow.{restarted}
 use Rattle.listing.specs.Replay.{Replay, replayOf, replayed}
-use Rattle.listing.specs.Collect.{outOf, collected}
+use Rattle.listing.specs.Collect.{collected}
 use Rattle.listing.specs.Answer.{stateAt}
 use Rattle.listing.proofs.answer.Statement.{statement}
 use Rattle.listing.proofs.answer.Tie as tie

@@ -1,16 +1,13 @@
 -- Each way through the code is one case of taking an event.
-use mathlib.Core.Path.{_≡_, sym, _∙_, ap}
-use mathlib.Core.List.{List}
-use Prim.Native.Nat.{ℕ, _*_, _≤_}
+use mathlib.Core.Path.{sym, _∙_, ap}
+use Prim.Native.Nat.{ℕ}
 use native.Mathlib.Omega.{arith}
-use native.Mathlib.Decide.{ℕ-discrete}
 use lib.ListN.{set, length-set}
 use borrow.Author.Needs.{needs}
-use Rattle.paging.specs.Layout.{tables64, pageOf}
+use Rattle.paging.specs.Layout.{tables64}
 use Rattle.paging.specs.Frame.{guest}
-use Rattle.held.specs.Work.{workBytes}
 use Rattle.held.specs.Follow.{restarted}
-use Rattle.listing.specs.Replay.{replayOf, forgets}
+use Rattle.listing.specs.Replay.{replayOf}
 use Rattle.listing.proofs.Applies.{forgets-in, applied-store, applied-other, applied-invlpg, applied-cr3, applied-none}
 use Rattle.listing.proofs.apply.Statement.{statement}
 use Rattle.listing.proofs.apply.Tie as tie

@@ -1,7 +1,7 @@
 -- Three writers after the addresses: each fault that is there.
-use mathlib.Core.Path.{_≡_, sym, ap, ap₂, _∙_}
+use mathlib.Core.Path.{ap₂, _∙_}
 use mathlib.Core.Bool.{Bool}
-use Prim.Native.Nat.{ℕ, _+_}
+use Prim.Native.Nat.{_+_}
 use borrow.Author.Needs.{needs}
 use Rattle.listing.specs.Collect.{Out, pushed, collected}
 use Rattle.listing.proofs.collect.Statement.{statement}

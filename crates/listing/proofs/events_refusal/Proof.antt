@@ -4,8 +4,6 @@ use mathlib.Core.List.{List}
 use Prim.Native.Nat.{ℕ, _/_, _-_, _≤_}
 use native.Mathlib.Omega.{arith}
 use lib.ListN.{length}
-use borrow.Author.Needs.{needs}
-use Rattle.rules.specs.declared.Event.{Event}
 use Rattle.rules.specs.History.{setup64, eventRefusal}
 use Rattle.listing.specs.Call.{firstRefusal}
 use Rattle.rules.specs.Numbers.{eventOf}

@@ -1,9 +1,8 @@
 -- No byte below k is of a walk that lacks a right.
 use mathlib.Core.Path.{_≡_, sym, ap, _∙_}
 use mathlib.Core.Bool.{false}
-use Prim.Native.Nat.{ℕ, _+_, _*_, _-_, _≤_}
+use Prim.Native.Nat.{ℕ, _*_, _-_, _≤_}
 use native.Mathlib.Omega.{arith}
-use borrow.Author.Needs.{needs}
 use Rattle.paging.specs.Numbers.{some}
 use Rattle.paging.proofs.Numbers.{some-none, some-more, some-i}
 use Rattle.listing.specs.Collect.{lacksAt, lacks}

@@ -1,7 +1,6 @@
 -- A marked byte's rights are its number's remainder by 8.
-use mathlib.Core.Path.{_≡_, ap}
-use mathlib.Core.Bool.{Bool, not}
-use Prim.Native.Nat.{ℕ}
+use mathlib.Core.Path.{ap}
+use mathlib.Core.Bool.{not}
 use lib.ListN.{getD}
 use borrow.Author.Needs.{needs}
 use borrow.Author.Tests.{eq-eqb, ne-eqb}

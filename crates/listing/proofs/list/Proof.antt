@@ -1,8 +1,7 @@
 -- Refused: nothing was touched. Accepted: the work's answer is the promised list.
-use mathlib.Core.Path.{_≡_, refl, sym, ap, _∙_}
-use Prim.Native.Nat.{ℕ, _<_}
+use mathlib.Core.Path.{_≡_, refl, sym, _∙_}
+use Prim.Native.Nat.{ℕ}
 use native.Mathlib.Omega.{arith}
-use lib.ListN.{length}
 use borrow.Author.Needs.{needs}
 use Rattle.listing.specs.Call.{Asked, Lent, asked, lent, listRefusal}
 use Rattle.listing.proofs.Accepts.{Accepted, accepted, ready}

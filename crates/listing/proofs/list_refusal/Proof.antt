@@ -1,15 +1,14 @@
 -- Each return is the first test that is met, in the call's own order.
-use mathlib.Core.Path.{_≡_, refl, sym, ap, _∙_}
+use mathlib.Core.Path.{_≡_, sym, _∙_}
 use mathlib.Core.Bool.{Bool, true}
-use Prim.Native.Nat.{ℕ, _/_, _≤_}
-use native.Mathlib.Omega.{arith}
+use Prim.Native.Nat.{ℕ, _≤_}
 use lib.ListN.{length}
 use borrow.Author.Needs.{needs}
 use borrow.Author.Tests.{not-true, not-false}
 use Rattle.paging.specs.Numbers.{isBetween}
 use Rattle.paging.proofs.Tests.{both}
 use Rattle.paging.proofs.Numbers.{between}
-use Rattle.listing.specs.Call.{Lent, asked, sizesFit, lengthsFit, firstRefusal}
+use Rattle.listing.specs.Call.{Lent, asked, sizesFit}
 use Rattle.listing.proofs.Refuses.{or-first, or-second, list-one, list-two, list-seven, list-later}
 use Rattle.listing.proofs.list_refusal.Statement.{statement}
 use Rattle.listing.proofs.list_refusal.Tie as tie

@@ -1,7 +1,5 @@
 -- By whether there is a pair to write.
-use mathlib.Core.Path.{_≡_}
 use native.Mathlib.Omega.{arith}
-use lib.ListN.{length-set}
 use borrow.Author.Needs.{needs}
 use borrow.Author.Tests.{not-true, not-false}
 use Rattle.listing.proofs.push.Statement.{statement}

@@ -1,9 +1,8 @@
 -- After k events the words, the CR3 and the bytes are those of the first k.
 use mathlib.Core.Path.{_≡_, refl, sym, ap, _∙_, subst}
-use Prim.Native.Nat.{ℕ, _+_, _*_, _/_, _-_, _≤_, _<_}
+use Prim.Native.Nat.{ℕ, _/_, _-_, _≤_, _<_}
 use native.Mathlib.Omega.{arith}
 use lib.ListN.{length}
-use borrow.Author.Needs.{needs}
 use Rattle.paging.proofs.Numbers.{each-none, each-more}
 use Rattle.rules.specs.declared.Event.{Event}
 use Rattle.rules.specs.Numbers.{eventOf}

@@ -3,8 +3,6 @@ use Prim.Native.Nat.{_/_, _^_}
 use borrow.Author.Needs.{needs}
 use Rattle.paging.proofs.flag.Statement.{statement}
 use Rattle.paging.proofs.flag.Tie as tie
-use Rattle.paging.proofs.flag.Reads as reads
-use Rattle.paging.proofs.flag.Lts as lts
 
 -- src/lib.rt:67:6
 shr-result : tie.Need-shr-result

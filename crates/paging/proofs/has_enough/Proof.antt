@@ -1,8 +1,6 @@
 use Rattle.paging.proofs.Rights.{and-enough}
 use Rattle.paging.proofs.has_enough.Statement.{statement}
 use Rattle.paging.proofs.has_enough.Tie as tie
-use Rattle.paging.proofs.has_enough.Reads as reads
-use Rattle.paging.proofs.has_enough.Lts as lts
 
 -- src/lib.rt:33:1
 returns : tie.Need-returns

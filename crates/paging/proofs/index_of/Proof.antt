@@ -4,8 +4,6 @@ use Prim.Native.Nat.{_-_, _*_, _/_, _^_}
 use borrow.Author.Needs.{needs}
 use Rattle.paging.proofs.index_of.Statement.{statement}
 use Rattle.paging.proofs.index_of.Tie as tie
-use Rattle.paging.proofs.index_of.Reads as reads
-use Rattle.paging.proofs.index_of.Lts as lts
 
 -- src/lib.rt:48:30
 sub-result : tie.Need-sub-result

@@ -1,8 +1,6 @@
 use borrow.Author.Tests.{lt-ltb, le-ltb}
 use Rattle.paging.proofs.is_allowed.Statement.{statement}
 use Rattle.paging.proofs.is_allowed.Tie as tie
-use Rattle.paging.proofs.is_allowed.Reads as reads
-use Rattle.paging.proofs.is_allowed.Lts as lts
 
 -- src/lib.rt:57:1
 returns : tie.Need-returns

@@ -1,7 +1,6 @@
 -- A frame that is not noted is new; another is compared.
 use borrow.Author.Needs.{needs}
-use Rattle.paging.specs.Frame.{notedAt, Noted}
-use mathlib.Core.Path.{_≡_, sym, ap, _∙_}
+use mathlib.Core.Path.{sym, ap, _∙_}
 use Prim.Native.Nat.{ℕ}
 use native.Mathlib.Omega.{arith}
 use lib.ListN.{getD}

@@ -3,8 +3,6 @@ use lib.Bits.{and-mask}
 use Prim.Native.Nat.{_/_, _^_}
 use Rattle.paging.proofs.page_of.Statement.{statement}
 use Rattle.paging.proofs.page_of.Tie as tie
-use Rattle.paging.proofs.page_of.Reads as reads
-use Rattle.paging.proofs.page_of.Lts as lts
 
 -- src/lib.rt:51:1
 returns : tie.Need-returns

@@ -5,9 +5,6 @@ use lib.Dec.{eqb}
 use borrow.Author.Needs.{needs}
 use Rattle.paging.proofs.present.Statement.{statement}
 use Rattle.paging.proofs.present.Tie as tie
-use Rattle.paging.proofs.present.Reads as reads
-use Rattle.paging.proofs.present.Lts as lts
-use Rattle.paging.proofs.flag.Reads as flag-reads
 
 -- src/lib.rt:73:5
 flag-requires : tie.Need-flag-requires

@@ -1,8 +1,6 @@
 use Rattle.paging.proofs.Bits.{set-bit}
 use Rattle.paging.proofs.set_accessed.Statement.{statement}
 use Rattle.paging.proofs.set_accessed.Tie as tie
-use Rattle.paging.proofs.set_accessed.Reads as reads
-use Rattle.paging.proofs.set_accessed.Lts as lts
 
 -- src/lib.rt:105:1
 returns : tie.Need-returns

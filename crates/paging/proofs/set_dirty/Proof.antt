@@ -1,8 +1,6 @@
 use Rattle.paging.proofs.Bits.{set-bit}
 use Rattle.paging.proofs.set_dirty.Statement.{statement}
 use Rattle.paging.proofs.set_dirty.Tie as tie
-use Rattle.paging.proofs.set_dirty.Reads as reads
-use Rattle.paging.proofs.set_dirty.Lts as lts
 
 -- src/lib.rt:111:1
 returns : tie.Need-returns

@@ -1,11 +1,11 @@
 -- The letter, each number, the line feed. At every turn the numbers that are left, written from here on, give the same.
 use mathlib.Core.Path.{_≡_, refl, sym, ap, _∙_}
-use mathlib.Core.List.{List, [], _∷_}
+use mathlib.Core.List.{List}
 use Prim.Native.Nat.{ℕ, _+_, _-_, _*_, _≤_}
 use native.Mathlib.Omega.{arith}
 use lib.ListN.{length, drop, length-set}
 use Rattle.render.specs.Render.{numbers}
-use Rattle.render.specs.Written.{Out, outOf, written}
+use Rattle.render.specs.Written.{outOf, written}
 use Rattle.render.proofs.Writes.{written-one}
 use Rattle.render.proofs.Lines.{written-first, number-more, number-end}
 use Rattle.render.proofs.put_line.Statement.{statement}

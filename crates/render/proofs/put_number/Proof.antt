@@ -1,11 +1,11 @@
 -- The space, then the digits; there are at most twenty of them.
-use mathlib.Core.Path.{_≡_, ap, _∙_}
-use Prim.Native.Nat.{ℕ, _+_, _≤_}
+use mathlib.Core.Path.{ap, _∙_}
+use Prim.Native.Nat.{_+_}
 use native.Mathlib.Omega.{arith}
-use lib.ListN.{length, set, length-set}
+use lib.ListN.{set, length-set}
 use borrow.Author.Needs.{needs}
 use Rattle.cursor.specs.Text.{digitsOf}
-use Rattle.render.specs.Written.{Out, outOf, written}
+use Rattle.render.specs.Written.{Out, outOf}
 use Rattle.render.proofs.Writes.{written-at}
 use Rattle.render.proofs.Digits.{length-word}
 use Rattle.render.proofs.Lines.{written-first}

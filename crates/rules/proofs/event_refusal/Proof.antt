@@ -1,10 +1,9 @@
 -- Each arm is the refusal of its kind.
-use mathlib.Core.Path.{_≡_, sym, _∙_, ap, ap₂}
+use mathlib.Core.Path.{sym, _∙_, ap, ap₂}
 use mathlib.Core.Logic.{inl, inr}
 use mathlib.Core.Bool.{Bool, cond}
-use Prim.Native.Nat.{ℕ, _*_}
-use native.Mathlib.Omega.{arith}
-use lib.Dec.{eqb, ltb}
+use Prim.Native.Nat.{ℕ}
+use lib.Dec.{ltb}
 use borrow.Author.Needs.{needs}
 use Rattle.rules.specs.History.{setup64}
 use Rattle.rules.proofs.Refusals.{known, too-many, of-store, of-invlpg, of-cr3, of-access, of-begin, of-slot, of-unknown}

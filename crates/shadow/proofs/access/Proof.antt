@@ -1,5 +1,5 @@
 -- Three ways out: a slot, the shadow path, a miss.
-use mathlib.Core.Path.{_≡_, sym, ap, ap₂, _∙_}
+use mathlib.Core.Path.{_≡_, sym, ap, _∙_}
 use Prim.Native.Nat.{ℕ, _+_, _/_, _<_, _≤_}
 use native.Mathlib.Omega.{arith}
 use lib.ListN.{getD}
@@ -9,11 +9,9 @@ use Rattle.paging.specs.declared.Request.{Request}
 use Rattle.paging.specs.Frame.{guest, host, hostOf}
 use Rattle.paging.specs.Layout.{tables64, index}
 use Rattle.paging.proofs.Indices.{index-small}
-use Rattle.tables.specs.declared.Path.{Path}
 use Rattle.tables.specs.State.{shadowOf, stateOf, machine64}
 use Rattle.tables.proofs.Names.{few, root-small, frame-small}
 use Rattle.shadow.specs.After.{valueAt}
-use Rattle.shadow.specs.Ready.{Ready}
 use Rattle.shadow.proofs.Accesses.{needs-small, adds-small, OnPath, path-range, access-slot, access-path, access-miss}
 use Rattle.shadow.proofs.access.Statement.{statement}
 use Rattle.shadow.proofs.access.Tie as tie

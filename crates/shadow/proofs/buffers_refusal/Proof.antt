@@ -1,10 +1,10 @@
 -- The first test that is met decides.
-use mathlib.Core.Path.{_≡_, sym, ap, _∙_}
-use mathlib.Core.Bool.{Bool, true, false}
+use mathlib.Core.Path.{_≡_, sym, _∙_}
+use mathlib.Core.Bool.{true}
 use borrow.Author.Tests.{not-true, not-false}
 use Rattle.rules.specs.Refusal.{refusal}
 use Rattle.tables.specs.State.{machine64}
-use Rattle.shadow.specs.After.{rangesFit, framesFit}
+use Rattle.shadow.specs.After.{framesFit}
 use Rattle.shadow.proofs.Sizing.{Ranged, ranged, ranged-few, sized}
 use Rattle.shadow.proofs.buffers_refusal.Statement.{statement}
 use Rattle.shadow.proofs.buffers_refusal.Tie as tie

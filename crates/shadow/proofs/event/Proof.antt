@@ -1,7 +1,6 @@
 -- A call that is refused changes nothing; one that is accepted is ready for its step.
-use mathlib.Core.Path.{_≡_, sym, ap, _∙_}
+use mathlib.Core.Path.{sym, ap, _∙_}
 use Prim.Native.Nat.{ℕ}
-use lib.Dec.{eqb}
 use borrow.Author.Tests.{eq-eqb, ne-eqb}
 use borrow.Author.Needs.{needs}
 use Rattle.tables.specs.State.{State, shadowOf, stateOf, machine64}

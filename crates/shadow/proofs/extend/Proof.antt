@@ -6,7 +6,7 @@ use native.Mathlib.Omega.{arith}
 use lib.ListN.{getD}
 use borrow.Author.Tests.{not-true, not-false}
 use borrow.Author.Needs.{needs}
-use Rattle.paging.specs.Layout.{tables64, rightsOf}
+use Rattle.paging.specs.Layout.{tables64}
 use Rattle.paging.specs.Walk.{meet}
 use Rattle.paging.proofs.Indices.{index-small}
 use Rattle.paging.proofs.Rights.{rights-small, meet-small}

@@ -1,12 +1,11 @@
 -- Enough tables are free once the fill has settled, or three are after emptying; the two arms are the cases of a fill.
-use mathlib.Core.Path.{_≡_, sym, ap, _∙_}
-use Prim.Native.Nat.{ℕ, _<_, _≤_}
+use mathlib.Core.Path.{ap, _∙_}
+use Prim.Native.Nat.{_<_, _≤_}
 use native.Mathlib.Omega.{arith}
 use Rattle.paging.specs.declared.Guest.{Guest}
 use Rattle.tables.specs.State.{Shadow, shadowOf, stateOf, machine64, tableCount, shadows, Room, SpotFits}
 use Rattle.tables.specs.Steps.{Settled, spot, freeCount}
 use Rattle.tables.proofs.Names.{few, root-small}
-use Rattle.shadow.specs.Ready.{Ready}
 use Rattle.shadow.proofs.Shares.{enough-free}
 use Rattle.shadow.proofs.Filling.{fill-emptied, fill-built, settled-spot}
 use Rattle.shadow.proofs.fill.Statement.{statement}

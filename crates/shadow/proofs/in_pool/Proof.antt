@@ -1,5 +1,5 @@
 -- Not below the base, and below the end.
-use mathlib.Core.Path.{_≡_, ap}
+use mathlib.Core.Path.{ap}
 use Prim.Native.Nat.{ℕ, _+_}
 use lib.Dec.{ltb}
 use borrow.Author.Tests.{le-leb, lt-leb}

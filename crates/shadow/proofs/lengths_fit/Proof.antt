@@ -1,7 +1,5 @@
 -- Each length, in the order of the buffers.
-use mathlib.Core.Path.{_≡_, refl}
 use Prim.Native.Nat.{_*_}
-use native.Mathlib.Omega.{arith}
 use lib.ListN.{length}
 use borrow.Author.Tests.{eq-eqb, ne-eqb}
 use borrow.Author.Needs.{needs}

@@ -1,6 +1,6 @@
 -- The walk ends in a fault, without a right, or in a fill.
 use mathlib.Core.Path.{_≡_, sym, ap, _∙_}
-use Prim.Native.Nat.{ℕ, _<_, _^_}
+use Prim.Native.Nat.{_<_, _^_}
 use native.Mathlib.Omega.{arith}
 use borrow.Author.Tests.{not-true, not-false}
 use borrow.Author.Needs.{needs}
@@ -10,7 +10,6 @@ use Rattle.paging.specs.Layout.{tables64}
 use Rattle.tables.specs.declared.Walked.the-variants.{Whole, Fault}
 use Rattle.tables.specs.State.{shadowOf, stateOf, machine64, shadows}
 use Rattle.tables.proofs.Names.{few, root-small}
-use Rattle.shadow.specs.Ready.{Ready}
 use Rattle.shadow.proofs.Walking.{InRange, guest-range, miss-fault, miss-lacks, miss-fills}
 use Rattle.shadow.proofs.miss.Statement.{statement}
 use Rattle.shadow.proofs.miss.Tie as tie

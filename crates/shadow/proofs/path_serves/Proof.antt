@@ -1,9 +1,9 @@
 -- An absent entry serves nobody; a present one serves with the rights that it leaves.
-use mathlib.Core.Path.{_≡_, sym, ap, _∙_}
+use mathlib.Core.Path.{sym, ap, _∙_}
 use native.Mathlib.Omega.{arith}
 use borrow.Author.Tests.{not-true, not-false}
 use borrow.Author.Needs.{needs}
-use Rattle.paging.specs.Layout.{tables64, rightsOf}
+use Rattle.paging.specs.Layout.{tables64}
 use Rattle.paging.specs.Request.{enough}
 use Rattle.paging.specs.Walk.{meet}
 use Rattle.paging.proofs.Rights.{rights-small, meet-small}

@@ -1,10 +1,10 @@
 -- A request that needs W sets D in the word as it is now; others change nothing.
-use mathlib.Core.Path.{_≡_, sym, ap, ap₂, _∙_}
-use Prim.Native.Nat.{ℕ, _+_, _%_}
+use mathlib.Core.Path.{_≡_, ap, _∙_}
+use Prim.Native.Nat.{ℕ}
 use native.Mathlib.Omega.{arith}
 use borrow.Author.Tests.{eq-eqb, ne-eqb}
 use borrow.Author.Needs.{needs}
-use Rattle.paging.specs.Layout.{tables64, bit, get, put, index, withBit}
+use Rattle.paging.specs.Layout.{tables64, bit, get, put, withBit}
 use Rattle.paging.proofs.Indices.{index-small}
 use Rattle.shadow.specs.After.{dirtied}
 use Rattle.shadow.proofs.set_d.Statement.{statement}

@@ -1,5 +1,5 @@
 -- A setup that is refused changes nothing; one that is accepted zeroes the buffers and sets the roots.
-use mathlib.Core.Path.{_≡_, sym, _∙_}
+use mathlib.Core.Path.{sym, _∙_}
 use mathlib.Core.List.{[]}
 use borrow.Author.Needs.{needs}
 use Rattle.tables.specs.State.{State, shadowOf, stateOf, machine64}

@@ -1,5 +1,5 @@
 -- The first test that is met decides.
-use mathlib.Core.Path.{_≡_, sym, _∙_}
+use mathlib.Core.Path.{sym, _∙_}
 use mathlib.Core.List.{[]}
 use borrow.Author.Tests.{not-true, not-false}
 use Rattle.tables.specs.State.{State, shadowOf, stateOf, machine64}

@@ -1,6 +1,5 @@
 -- Each arm is the move that the kind decodes to.
 use mathlib.Core.Path.{_≡_, _∙_}
-use Prim.Native.Nat.{ℕ}
 use native.Mathlib.Omega.{arith}
 use borrow.Author.Needs.{needs}
 use Rattle.tables.specs.State.{State, shadowOf, stateOf, machine64}

@@ -1,6 +1,6 @@
 -- The search over the slots that are left says the same at every turn.
-use mathlib.Core.Path.{_≡_, refl, sym, ap, _∙_}
-use Prim.Native.Nat.{ℕ, _+_, _-_, _≤_}
+use mathlib.Core.Path.{_≡_, refl, sym, _∙_}
+use Prim.Native.Nat.{_+_, _-_, _≤_}
 use native.Mathlib.Omega.{arith}
 use Rattle.paging.specs.Numbers.{firstFrom}
 use Rattle.tables.specs.Steps.{slotServes, servingSlot}

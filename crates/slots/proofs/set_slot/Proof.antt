@@ -1,6 +1,5 @@
 -- Three stores into one list, whose length they keep.
 use mathlib.Core.Path.{ap}
-use mathlib.Core.List.{List}
 use Prim.Native.Nat.{ℕ, _+_, _*_}
 use native.Mathlib.Omega.{arith}
 use lib.ListN.{set, length-set}

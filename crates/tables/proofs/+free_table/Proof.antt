@@ -1,14 +1,14 @@
 -- Freeing calls itself one level lower, so the measure is the level. The loop's invariant is `Turned`: the entries
 -- below i are cut.
 use Prim.Native.Nat.{ℕ, _<_, _-_}
-use mathlib.Core.Path.{_≡_, refl, sym, ap, _∙_}
+use mathlib.Core.Path.{refl, sym, ap, _∙_}
 use mathlib.Core.List.{List}
 use native.Mathlib.Omega.{arith}
-use lib.ListN.{length, length-set}
+use lib.ListN.{length}
 use borrow.Fn.Kinds.{In}
 use borrow.Fn.PlainCycle.{Measures, is, falls, and}
 use Rattle.paging.specs.Layout.{tables64, put}
-use Rattle.tables.specs.State.{shadowOf, Room}
+use Rattle.tables.specs.State.{shadowOf}
 use Rattle.tables.proofs.Names.{few}
 use Rattle.paging.proofs.Numbers.{each-none}
 use Rattle.tables.proofs.Counts.{by-cases}

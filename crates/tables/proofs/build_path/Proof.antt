@@ -1,13 +1,13 @@
 -- What is left to build says the same at every turn, and enough tables are left for it.
-use mathlib.Core.Path.{_≡_, refl, sym, ap, ap₂, _∙_}
+use mathlib.Core.Path.{_≡_, refl, ap, _∙_}
 use mathlib.Core.List.{List}
-use Prim.Native.Nat.{ℕ, _-_, _+_, _≤_, _<_}
+use Prim.Native.Nat.{ℕ, _-_, _+_, _≤_}
 use native.Mathlib.Omega.{arith}
 use lib.ListN.{length}
 use Rattle.paging.specs.Frame.{guest}
 use Rattle.paging.specs.Layout.{tables64, frameOf}
 use Rattle.paging.proofs.Indices.{index-small}
-use Rattle.tables.specs.State.{machine64, shadowOf, tableCount, SpotFits}
+use Rattle.tables.specs.State.{machine64, shadowOf, SpotFits}
 use Rattle.tables.specs.Steps.{Settled, settledAt, guestEntry, taken, freeCount, hangNext, build}
 use Rattle.tables.proofs.Names.{few, frame-small}
 use Rattle.tables.proofs.Takes.{taken-table, hang-count}

@@ -1,12 +1,11 @@
 -- Another's table stays; p's root is zeroed; p's other tables are freed.
-use mathlib.Core.Path.{_≡_, sym, ap, ap₂, _∙_}
+use mathlib.Core.Path.{sym, ap, ap₂, _∙_}
 use mathlib.Core.List.{List}
 use Prim.Native.Nat.{ℕ}
 use native.Mathlib.Omega.{arith}
 use borrow.Author.Tests.{eq-eqb, ne-eqb}
 use borrow.Author.Needs.{needs}
-use Rattle.paging.specs.Frame.{guest}
-use Rattle.tables.specs.State.{machine64, shadowOf, withRecord, ownerOf, rootOf}
+use Rattle.tables.specs.State.{machine64, shadowOf, ownerOf, rootOf}
 use Rattle.tables.proofs.Names.{few}
 use Rattle.tables.proofs.empty_table.Statement.{statement}
 use Rattle.tables.proofs.empty_table.Tie as tie

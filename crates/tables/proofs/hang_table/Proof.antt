@@ -1,6 +1,5 @@
 -- One record and one entry.
 use mathlib.Core.Path.{ap, ap₂, _∙_}
-use Prim.Native.Nat.{ℕ}
 use native.Mathlib.Omega.{arith}
 use borrow.Author.Needs.{needs}
 use Rattle.paging.specs.Layout.{tables64, put}

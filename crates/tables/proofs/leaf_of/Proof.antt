@@ -1,11 +1,11 @@
 -- The entry is composed of the rights that the guest's entry shares with its D.
 use mathlib.Core.Path.{_≡_, ap, ap₂, _∙_}
-use Prim.Native.Nat.{ℕ, _+_, _%_, _<_, _^_}
+use Prim.Native.Nat.{ℕ, _+_, _%_}
 use native.Mathlib.Omega.{arith}
 use borrow.Author.Needs.{needs}
 use Rattle.paging.specs.declared.Host.{Host}
 use Rattle.paging.specs.Frame.{guest, hostOf}
-use Rattle.paging.specs.Layout.{tables64, bit, frameOf, rightsOf, compose}
+use Rattle.paging.specs.Layout.{tables64, bit, compose}
 use Rattle.paging.specs.Walk.{meet}
 use Rattle.paging.proofs.Rights.{rights-small, meet-small}
 use Rattle.tables.specs.Steps.{leafOf}

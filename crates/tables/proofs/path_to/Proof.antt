@@ -1,12 +1,12 @@
 -- The path that is left to go says the same at every turn; the measure is the level.
-use mathlib.Core.Path.{_≡_, refl, sym, ap, _∙_}
+use mathlib.Core.Path.{_≡_, ap, _∙_}
 use Prim.Native.Nat.{ℕ, _-_, _≤_, _<_}
 use native.Mathlib.Omega.{arith}
 use Rattle.paging.specs.Layout.{tables64, get, rightsOf}
 use Rattle.paging.proofs.Indices.{index-small}
 use Rattle.paging.proofs.Rights.{meet-small}
 use Rattle.tables.specs.declared.Path.{Path}
-use Rattle.tables.specs.State.{machine64, tableCount, down, nextEntry, descend, pathTo}
+use Rattle.tables.specs.State.{machine64, down, nextEntry, descend, pathTo}
 use Rattle.tables.proofs.Names.{few, root-small, named-small}
 use Rattle.tables.proofs.Paths.{descend-on, descend-end}
 use Rattle.tables.proofs.path_to.Statement.{statement}

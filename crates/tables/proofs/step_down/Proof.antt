@@ -1,12 +1,11 @@
 -- The next path, field by field.
-use mathlib.Core.Path.{_≡_, ap, ap₂, _∙_}
+use mathlib.Core.Path.{ap, ap₂, _∙_}
 use Prim.Native.Nat.{ℕ, _-_}
 use native.Mathlib.Omega.{arith}
 use borrow.Author.Needs.{needs}
 use Rattle.paging.specs.Layout.{tables64}
 use Rattle.paging.specs.Walk.{meet}
 use Rattle.paging.proofs.Rights.{rights-small}
-use Rattle.tables.specs.declared.Path.{Path}
 use Rattle.tables.proofs.step_down.Statement.{statement}
 use Rattle.tables.proofs.step_down.Tie as tie
 

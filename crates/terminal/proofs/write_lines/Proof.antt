@@ -8,7 +8,6 @@ use lib.Seq.{length-take-le}
 use borrow.Author.Needs.{needs}
 use Rattle.trainer.specs.declared.Written.{Written}
 use Rattle.trainer.specs.declared.Written.the-variants.{Bytes}
-use Rattle.trainer.specs.declared.Program.{Program}
 use Rattle.trainer.specs.Call.{Lines, Call}
 use Rattle.trainer.specs.Parts.{LinesOf}
 use Rattle.terminal.proofs.write_lines.Statement.{statement}

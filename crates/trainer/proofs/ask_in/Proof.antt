@@ -1,5 +1,5 @@
 -- The list call on a copy of the start's words leaves the right list.
-use mathlib.Core.Path.{_≡_, ap, sym, _∙_}
+use mathlib.Core.Path.{ap, sym, _∙_}
 use borrow.Author.Needs.{needs}
 use Rattle.listing.specs.Call.{lent, countOf}
 use Rattle.trainer.proofs.Asks.{found}

@@ -1,5 +1,5 @@
 -- Setup is accepted, so that the run starts where the promise says.
-use mathlib.Core.Path.{_≡_, subst}
+use mathlib.Core.Path.{subst}
 use mathlib.Core.List.{[]}
 use borrow.Author.Needs.{needs}
 use Rattle.tables.specs.State.{machine64, shadowOf, State, stateOf}

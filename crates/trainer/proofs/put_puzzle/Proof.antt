@@ -1,7 +1,6 @@
 -- Each buffer is cut to its count, for either program.
 use mathlib.Core.Path.{_≡_, refl, sym, subst⁻¹}
-use mathlib.Core.List.{List}
-use Prim.Native.Nat.{ℕ, _*_}
+use Prim.Native.Nat.{_*_}
 use lib.ListN.{length, take}
 use lib.Seq.{length-take-le}
 use borrow.Author.Needs.{needs}

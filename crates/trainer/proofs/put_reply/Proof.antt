@@ -1,5 +1,5 @@
 -- The answer's kind and value as numbers; a kind has one digit.
-use mathlib.Core.Path.{_≡_, ap₂, _∙_, subst⁻¹}
+use mathlib.Core.Path.{ap₂, _∙_, subst⁻¹}
 use Prim.Native.Nat.{ℕ, _+_, _<_}
 use borrow.Author.Needs.{needs}
 use Rattle.render.specs.Render.{renderEvent}

@@ -1,7 +1,6 @@
 -- Four tables to a processor: 2048 entries, 8 numbers of records, and 24 numbers of slots.
 use mathlib.Core.Path.{_≡_, sym}
-use mathlib.Core.List.{List}
-use Prim.Native.Nat.{ℕ, _*_}
+use Prim.Native.Nat.{_*_}
 use native.Mathlib.Omega.{arith}
 use lib.ListN.{length, take}
 use lib.Seq.{length-take-le}

@@ -1,7 +1,6 @@
 -- Safe: all four numbers of event k lie inside.
 use Prim.Native.Nat.{_-_, _≤_}
 use native.Mathlib.Omega.{arith}
-use lib.ListN.{length}
 use Rattle.known.proofs.sides.show_events.Statement.{statement}
 use Rattle.known.proofs.sides.show_events.Tie as tie
 

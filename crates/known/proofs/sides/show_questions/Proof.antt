@@ -1,7 +1,6 @@
 -- Safe: all three numbers of question k lie inside.
 use Prim.Native.Nat.{_-_, _≤_}
 use native.Mathlib.Omega.{arith}
-use lib.ListN.{length}
 use Rattle.known.proofs.sides.show_questions.Statement.{statement}
 use Rattle.known.proofs.sides.show_questions.Tie as tie
 
