@@ -17,7 +17,7 @@ ghost use Rattle.puzzle.specs.Buffers.{buffers};
 ghost use Rattle.flamecurl.specs.Exports.{sizesOf, eventFrom, questionFrom, listNumbers, eventNumbers, readNumbers, writtenNumbers, ListExport, SetupExport, EventExport, ReadExport, PrintExport};
 ghost use Rattle.trainer.specs.Answers.{AnswersOf};
 ghost use Rattle.trainer.specs.Run.{RunOf};
-ghost use Rattle.trainer.specs.Parts.{LinesOf};
+ghost use Rattle.trainer.specs.PartsCode.{LinesOf};
 
 // ---- answers as numbers; the first is returned
 

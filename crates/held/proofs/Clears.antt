@@ -15,9 +15,9 @@ use Rattle.paging.specs.Layout.{Layout}
 use Rattle.paging.specs.Walk.{start}
 use Rattle.paging.proofs.Numbers.{set-zero}
 use Rattle.rules.specs.View.{View}
-use Rattle.rules.proofs.Steps.{Kept, stay, ends}
+use Rattle.rules.specs.Kept.{Kept, stay, ends}
 use Rattle.held.specs.Work.{cell, workBytes, HasByte}
-use Rattle.held.specs.Follow.{cleared, restarted}
+use Rattle.held.specs.FollowCode.{cleared, restarted}
 use Rattle.held.proofs.Cells.{cell-below}
 use Rattle.held.proofs.Closing.{ByteSet, Bits, Grows, follow-grows}
 use Rattle.held.proofs.Tracks.{Told, Tracks, begun, kept-byte}

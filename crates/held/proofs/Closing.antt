@@ -17,7 +17,7 @@ use Rattle.paging.specs.declared.Step.the-variants.{On, Absent, Beyond, Complet
 use Rattle.paging.specs.Numbers.{each}
 use Rattle.paging.specs.Layout.{Layout, frameWords, index}
 use Rattle.held.specs.Work.{cell, workBytes, HasByte}
-use Rattle.held.specs.Follow.{isSet, walkOf, onward, stepIn, follow, followed, reread, rereadAll, rereadAt, rereadWord}
+use Rattle.held.specs.FollowCode.{isSet, walkOf, onward, stepIn, follow, followed, reread, rereadAll, rereadAt, rereadWord}
 use Rattle.held.proofs.Cells.{cell-below, cell-own}
 use Rattle.held.proofs.Follows.{below}
 

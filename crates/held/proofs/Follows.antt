@@ -16,7 +16,7 @@ use Rattle.paging.proofs.Step.{the-type}
 use Rattle.paging.proofs.Steps.{Goes, goes}
 use Rattle.paging.proofs.Rights.{meet-small}
 use Rattle.held.specs.Work.{cell, HasByte}
-use Rattle.held.specs.Follow.{onward, cleared, stepIn, follow, followed, reread, rereadAll, rereadAt, rereadWord}
+use Rattle.held.specs.FollowCode.{onward, cleared, stepIn, follow, followed, reread, rereadAll, rereadAt, rereadWord}
 
 module _ (Y : Layout) (G page : ℕ) (words : List ℕ) where
   -- a walk that has a byte goes on to one that has a byte, one level down

@@ -14,13 +14,15 @@ use Rattle.paging.specs.declared.Walk.{Walk}
 use Rattle.paging.specs.declared.Step.the-variants.{On, Complete}
 use Rattle.paging.specs.Layout.{Layout, frameWords, get, index}
 use Rattle.paging.specs.Walk.{step}
-use Rattle.paging.proofs.Layouts.{Sound, place-frame}
+use Rattle.paging.specs.Sound.{Sound}
+use Rattle.paging.proofs.Layouts.{place-frame}
 use Rattle.paging.proofs.Indices.{index-small}
 use Rattle.rules.specs.View.{View}
-use Rattle.rules.proofs.Views.{Coherent, Rooted}
-use Rattle.rules.proofs.Steps.{Kept, begin, extend, stay, ends, kept-level, kept-small, kept-inside}
+use Rattle.rules.specs.Coherent.{Coherent, Rooted}
+use Rattle.rules.specs.Kept.{Kept, begin, extend, stay, ends}
+use Rattle.rules.proofs.Steps.{kept-level, kept-small, kept-inside}
 use Rattle.held.specs.Work.{workBytes, HasByte}
-use Rattle.held.specs.Follow.{stepIn, followed, rereadWord}
+use Rattle.held.specs.FollowCode.{stepIn, followed, rereadWord}
 use Rattle.held.proofs.Closing.{ByteSet, Bits, Grows, Closed, Within, Onto, Stands, word-grows, word-within, word-closed, follow-grows, follow-has, follow-within, follow-closed}
 
 module _ (Y : Layout) (seen : View) (G page : ℕ) (words : ℕ → List ℕ) where

@@ -13,7 +13,7 @@ use Rattle.paging.specs.Frame.{guest, host, hostOf}
 use Rattle.paging.specs.Layout.{Layout, index, pageOf, frameOf, rightsOf, isPresent, get, put, withD}
 use Rattle.paging.specs.Request.{requestOf, enough}
 use Rattle.paging.specs.Walk.{meet, start}
-use Rattle.paging.proofs.Layouts.{Sound}
+use Rattle.paging.specs.Sound.{Sound}
 use Rattle.paging.proofs.Indices.{index-small}
 use Rattle.tables.specs.declared.Path.{Path}
 use Rattle.tables.specs.declared.Walked.{Walked}

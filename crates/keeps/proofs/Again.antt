@@ -13,7 +13,8 @@ use Rattle.paging.specs.declared.Request.{Request}
 use Rattle.paging.specs.Layout.{Layout, bit, get, put, index, pageOf, frameOf, rightsOf, isPresent, withBit, withD}
 use Rattle.paging.specs.Request.{requestOf, enough}
 use Rattle.paging.specs.Walk.{meet}
-use Rattle.paging.proofs.Layouts.{Sound, length-put, get-with-bit, get-past}
+use Rattle.paging.specs.Sound.{Sound}
+use Rattle.paging.proofs.Layouts.{length-put, get-with-bit, get-past}
 use Rattle.paging.proofs.Indices.{index-small}
 use Rattle.paging.proofs.Rights.{meet-small, rights-small, needs-small}
 use Rattle.tables.specs.declared.Path.{Path}

@@ -9,7 +9,8 @@ use lib.Seq.{getD-set-same, getD-set-other, set-out}
 use Rattle.paging.specs.declared.Walk.{Walk}
 use Rattle.paging.specs.Layout.{Layout, get, put, withBit}
 use Rattle.paging.specs.Walk.{step}
-use Rattle.paging.proofs.Layouts.{Alike, Flag, Sound, alike-refl, alike-sym, alike-trans, length-put, with-bit-keeps, step-alike}
+use Rattle.paging.specs.Sound.{Alike, Flag, Sound}
+use Rattle.paging.proofs.Layouts.{alike-refl, alike-sym, alike-trans, length-put, with-bit-keeps, step-alike}
 
 -- two lists of words, entry by entry
 pub record Same (Y : Layout) (xs ys : List ℕ) : Type 0 where

@@ -11,7 +11,8 @@ use Rattle.paging.specs.declared.Step.the-variants.{On, Absent, Beyond, Complet
 use Rattle.paging.specs.Frame.{guest}
 use Rattle.paging.specs.Layout.{get, put, index, frameOf, rightsOf, withA}
 use Rattle.paging.specs.Walk.{meet, step}
-use Rattle.paging.proofs.Layouts.{Alike, Sound, present-alike, frame-alike, rights-alike}
+use Rattle.paging.specs.Sound.{Alike, Sound}
+use Rattle.paging.proofs.Layouts.{present-alike, frame-alike, rights-alike}
 use Rattle.paging.proofs.Indices.{index-small}
 use Rattle.paging.proofs.Steps.{goes, completed}
 use Rattle.tables.specs.declared.Walked.the-variants.{Whole, Fault}

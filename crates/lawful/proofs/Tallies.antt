@@ -14,7 +14,7 @@ use Rattle.tables.specs.declared.Sizes.{Sizes}
 use Rattle.tables.specs.State.{machine64, tableCount, entryOf, named, Sized}
 use Rattle.tables.proofs.Names.{few}
 use Rattle.tables.proofs.Counts.{sum-none, sum-more, count-hit, count-miss, count-small}
-use Rattle.lawful.specs.Tally.{namesBelow, Tallied}
+use Rattle.lawful.specs.TallyCode.{namesBelow, Tallied}
 
 -- the entries of t below i are counted too
 pub record Tallying (z : Sizes) (pool counts : List ℕ) (t i : ℕ) : Type 0 where

@@ -7,7 +7,7 @@ ghost use Rattle.paging.specs.Layout.{tables64};
 ghost use Rattle.paging.specs.Numbers.{all};
 ghost use Rattle.tables.specs.State.{shadowOf, stateOf, machine64, tableCount, rootOf, entryOf, Sized};
 ghost use Rattle.lawful.specs.Rules.{isMapped, isMadeWith, isLeaf, isBranch, isLaidOut, namesLower, isRoot, recordRight, entryRight, tableRight, tableWhole, entryWhole, isOnPath, slotRight, lawful};
-ghost use Rattle.lawful.specs.Tally.{Tallied};
+ghost use Rattle.lawful.specs.TallyCode.{Tallied};
 use paging::Host;
 use paging::Origin;
 use tables::Sizes;

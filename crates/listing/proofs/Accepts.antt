@@ -19,8 +19,8 @@ use Rattle.rules.proofs.Ranges.{Clear, clear, event-clear, cr3-within}
 use Rattle.held.specs.Work.{workBytes, Room}
 use Rattle.listing.specs.Call.{Asked, Lent, setupAsked, sizesFit, lengthsFit, firstRefusal, listRefusal}
 use Rattle.rules.specs.Numbers.{eventOf, eventsOf}
-use Rattle.listing.specs.Replay.{Reach}
-use Rattle.listing.specs.Answer.{Answerable}
+use Rattle.listing.specs.ReplayCode.{Reach}
+use Rattle.listing.specs.AnswerCode.{Answerable}
 use Rattle.listing.proofs.Refuses.{or-none, first-each}
 
 -- an event of the list is the one that its four numbers say

@@ -11,8 +11,8 @@ use Rattle.paging.specs.Layout.{tables64, pageOf}
 use Rattle.paging.proofs.Tests.{and-r}
 use Rattle.rules.specs.declared.Event.{Event}
 use Rattle.rules.specs.History.{isStore, isInvlpg, isCr3Write, isBy}
-use Rattle.held.specs.Follow.{rereadWord, restarted}
-use Rattle.listing.specs.Replay.{Replay, replayOf, Reach, forgets, applied}
+use Rattle.held.specs.FollowCode.{rereadWord, restarted}
+use Rattle.listing.specs.ReplayCode.{Replay, replayOf, Reach, forgets, applied}
 
 module _ (G page a : ℕ) where
   pub forgets-all : pageOf tables64 a ≡ page → forgets G page a ≡ 0

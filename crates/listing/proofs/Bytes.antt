@@ -4,7 +4,7 @@ use Prim.Native.Nat.{ℕ, _*_, _/_, _<_}
 use native.Mathlib.Nat.{mod-lt, div-add-mod', div-lt-iff-lt-mul}
 use native.Mathlib.Omega.{arith}
 use Rattle.held.specs.Work.{cell, workBytes, HasByte}
-use Rattle.listing.specs.Collect.{walkAt}
+use Rattle.listing.specs.CollectCode.{walkAt}
 
 module _ (G k : ℕ) (some : 0 < G) where
   pub byte-walk : k < workBytes G → HasByte G (walkAt G k)

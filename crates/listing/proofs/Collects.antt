@@ -23,14 +23,15 @@ use Rattle.rules.specs.declared.Outcome.the-variants.{Address, Fault}
 use Rattle.rules.specs.View.{View}
 use Rattle.rules.specs.Outcome.{given, Permitted, Before, Rises, RightList}
 use Rattle.rules.proofs.Order.{Mem}
-use Rattle.rules.proofs.Steps.{Kept, held-is-kept}
+use Rattle.rules.specs.Kept.{Kept}
+use Rattle.rules.proofs.Steps.{held-is-kept}
 use Rattle.held.specs.Work.{cell, workBytes, HasByte}
-use Rattle.held.specs.Follow.{isSet, walkOf, stepIn}
+use Rattle.held.specs.FollowCode.{isSet, walkOf, stepIn}
 use Rattle.held.proofs.Cells.{cell-below, cell-own, complete-first}
 use Rattle.held.proofs.Closing.{ByteSet}
 use Rattle.held.proofs.Tracks.{Told, Tracks, kept-byte}
 use Rattle.listing.specs.Call.{pairs}
-use Rattle.listing.specs.Collect.{outOf, pushed, stopCode, walkAt, servesWith, serves, lacksAt, lacks, stopsAt, stops, addresses, collected}
+use Rattle.listing.specs.CollectCode.{outOf, pushed, stopCode, walkAt, servesWith, serves, lacksAt, lacks, stopsAt, stops, addresses, collected}
 use Rattle.listing.proofs.Bytes.{byte-walk, byte-cell}
 use Rattle.listing.proofs.Pairs.{ifs, Wrote, wrote-none, wrote-push}
 use Rattle.paging.specs.Layout.{tables64}

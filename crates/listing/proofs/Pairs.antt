@@ -10,7 +10,7 @@ use lib.Seq.{drop-cons, set-at}
 use Rattle.rules.specs.declared.Outcome.{Outcome}
 use Rattle.rules.specs.declared.Outcome.the-variants.{Address, Fault}
 use Rattle.listing.specs.Call.{pairs}
-use Rattle.listing.specs.Collect.{Out, outOf, pushed}
+use Rattle.listing.specs.CollectCode.{Out, outOf, pushed}
 
 -- the outcome, if the test passed
 abbrev pub ifs : Bool → Outcome → List Outcome

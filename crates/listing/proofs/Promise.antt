@@ -24,8 +24,8 @@ use Rattle.listing.specs.declared.Listed.{Listed}
 use Rattle.listing.specs.declared.Listed.the-variants.{Count, Refused}
 use Rattle.listing.specs.Call.{Asked, Lent, lent, setupAsked, pairs, refusalOf, countOf, Lists}
 use Rattle.rules.specs.Numbers.{eventsOf}
-use Rattle.listing.specs.Collect.{Out, outOf, walkAt, collected}
-use Rattle.listing.specs.Answer.{stateAt, Answers}
+use Rattle.listing.specs.CollectCode.{Out, outOf, walkAt, collected}
+use Rattle.listing.specs.AnswerCode.{stateAt, Answers}
 use Rattle.listing.proofs.Accepts.{Accepted, event-at, fit, reach}
 use Rattle.listing.proofs.Replays.{Follows, told, started, replayed-follows}
 use Rattle.listing.proofs.Collects.{listed, collected-wrote, listed-right}

@@ -20,15 +20,16 @@ use Rattle.rules.specs.declared.Event.{Event}
 use Rattle.rules.specs.History.{Setup, setup64, Fit, eventAt, wordsAt, cr3At}
 use Rattle.rules.specs.View.{View, viewOf, endsPartialOf, endsCompleteOf}
 use Rattle.rules.proofs.Views.{coherent, rooted}
-use Rattle.rules.proofs.Steps.{ends, byLevel, never}
+use Rattle.rules.specs.Kept.{ends, byLevel}
+use Rattle.rules.proofs.Steps.{never}
 use Rattle.held.specs.Work.{cell, workBytes, HasByte}
-use Rattle.held.specs.Follow.{stepIn, rereadWord, restarted}
+use Rattle.held.specs.FollowCode.{stepIn, rereadWord, restarted}
 use Rattle.held.proofs.Cells.{complete-first}
 use Rattle.held.proofs.Closing.{word-grows}
 use Rattle.held.proofs.Tracks.{Told, Tracks, after-store, after-idle}
 use Rattle.held.proofs.Clears.{cleared-size, cleared-above, from-start, after-end, restart-grows}
 use Rattle.rules.specs.Numbers.{eventOf}
-use Rattle.listing.specs.Replay.{Replay, replayOf, Reach, forgets, applied, replayed}
+use Rattle.listing.specs.ReplayCode.{Replay, replayOf, Reach, forgets, applied, replayed}
 use Rattle.listing.proofs.Applies.{forgets-all, forgets-partial, applied-store, applied-other, applied-invlpg, applied-cr3, applied-none}
 
 -- ---- which walks an event ends

@@ -9,9 +9,9 @@ use lib.Dec.{eqb}
 use lib.ListN.{getD}
 use borrow.Author.Tests.{eq-eqb, ne-eqb}
 use Rattle.paging.specs.Numbers.{some}
-use Rattle.held.specs.Follow.{stepIn}
+use Rattle.held.specs.FollowCode.{stepIn}
 use Rattle.listing.specs.declared.Faults.{Faults}
-use Rattle.listing.specs.Collect.{stopCode, walkAt, stopsAt, stopAt, withFault, stops}
+use Rattle.listing.specs.CollectCode.{stopCode, walkAt, stopsAt, stopAt, withFault, stops}
 use Rattle.paging.specs.Layout.{tables64}
 
 or-true : (b : Bool) → (b || true) ≡ true

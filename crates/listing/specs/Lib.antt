@@ -1,4 +1,4 @@
 pub mod Call
-pub mod Replay
-pub mod Collect
-pub mod Answer
+pub mod ReplayCode
+pub mod CollectCode
+pub mod AnswerCode

@@ -14,9 +14,9 @@ ghost use mathlib.Core.List.{List};
 ghost use Rattle.rules.specs.History.{setup64, eventRefusal};
 ghost use Rattle.listing.specs.Call.{Lent, asked, lent, sizesFit, firstRefusal, listRefusal, ListCall};
 ghost use Rattle.rules.specs.Numbers.{eventOf};
-ghost use Rattle.listing.specs.Answer.{Answerable, Answers};
-ghost use Rattle.listing.specs.Replay.{Reach, replayOf, forgets, applied, replayed};
-ghost use Rattle.listing.specs.Collect.{outOf, pushed, stopCode, walkAt, servesWith, serves, lacksAt, lacks, stopAt, withFault, stops, addresses, collected};
+ghost use Rattle.listing.specs.AnswerCode.{Answerable, Answers};
+ghost use Rattle.listing.specs.ReplayCode.{Reach, replayOf, forgets, applied, replayed};
+ghost use Rattle.listing.specs.CollectCode.{outOf, pushed, stopCode, walkAt, servesWith, serves, lacksAt, lacks, stopAt, withFault, stops, addresses, collected};
 
 // The number of outcomes, or why the call was refused.
 pub enum Listed {

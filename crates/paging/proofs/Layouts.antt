@@ -1,8 +1,8 @@
--- What is asked of a layout, and that the 64-bit one has it. What is proved of tables is proved from this record.
+-- The 64-bit layout is sound, and what follows of every sound layout.
 use mathlib.Core.Path.{_≡_, refl, sym, _∙_, ap, ap₂}
 use mathlib.Core.Bool.{Bool, true, cond, not}
 use mathlib.Core.List.{List}
-use mathlib.Core.Logic.{_⊎_, inl, inr}
+use mathlib.Core.Logic.{inl, inr}
 use Prim.Native.Nat.{ℕ, _+_, _-_, _*_, _/_, _%_, _^_, _≤_, _<_}
 use native.Mathlib.Nat.{mul-assoc, mul-comm, add-mul-div-right}
 use native.Mathlib.Omega.{arith}
@@ -19,40 +19,7 @@ use Rattle.paging.specs.Frame.{guest}
 use Rattle.paging.specs.Layout.{Layout, tables64, frameWords, bit, get, put, frameOf, rightsOf, compose, isPresent, withBit}
 use Rattle.paging.specs.Walk.{meet, withRights, downTo, step}
 use Rattle.paging.proofs.Finite.{at-below}
-
--- two entries that agree in all bits but 5 and 6, A and D
-pub record Alike (e d : ℕ) : Type 0 where
-  pub low : e % 32 ≡ d % 32
-  pub high : e / 128 ≡ d / 128
-
--- A is bit 5 and D is bit 6
-abbrev pub Flag : ℕ → Type 0
-Flag k = (k ≡ 5) ⊎ (k ≡ 6)
-
-pub record Sound (Y : Layout) : Type 0 where
-  pub some-level : 0 < Y .levels
-  -- entries of different frames lie in different words, and all in the words of their frame
-  pub apart : (f g i j : ℕ) → i < 2 ^ Y .indexBits → j < 2 ^ Y .indexBits → Y .place f i ≡ Y .place g j → f ≡ g
-  pub inside : (f G i : ℕ) → i < 2 ^ Y .indexBits → f < G → Y .place f i < frameWords * G
-  pub above : (f G i : ℕ) → G ≤ f → frameWords * G ≤ Y .place f i
-  -- an entry that is put in is found again, and the others of its word stay
-  pub joined : (i w e : ℕ) → e < 2 ^ Y .entryBits → Y .part i (Y .join i w e) ≡ e
-  pub beside : (f i j w e : ℕ) → i < 2 ^ Y .indexBits → j < 2 ^ Y .indexBits → (i ≡ j → ⊥) → Y .place f i ≡ Y .place f j
-      → e < 2 ^ Y .entryBits → Y .part j (Y .join i w e) ≡ Y .part j w
-  -- so is an entry in which A or D is set, whatever its word holds
-  pub bit-set : (k i w : ℕ) → Flag k → Y .part i (Y .join i w (withBit k (Y .part i w))) ≡ withBit k (Y .part i w)
-  pub bit-beside : (k f i j w : ℕ) → Flag k → i < 2 ^ Y .indexBits → j < 2 ^ Y .indexBits → (i ≡ j → ⊥) → Y .place f i ≡ Y .place f j
-      → Y .part j (Y .join i w (withBit k (Y .part i w))) ≡ Y .part j w
-  -- a word that is 0 has no entry but 0
-  pub zero-part : (i : ℕ) → Y .part i 0 ≡ 0
-  -- NX is neither A nor D
-  pub nx-alike : {e d : ℕ} → Alike e d → Y .nx e ≡ Y .nx d
-  -- a composed entry has its frame and its NX; a layout with no NX grants X always
-  pub composed-frame : (r d f : ℕ) → d < 2 → f < 2 ^ Y .frameBits → frameOf Y (compose Y r d f) ≡ f
-  pub composed-nx : (r d f : ℕ) → d < 2 → f < 2 ^ Y .frameBits → (Y .nxAlone ≡ 0 → bit r 2 ≡ 1)
-      → Y .nx (compose Y r d f) ≡ 1 - bit r 2
-  -- NX lies above A and D, so the bits below it are the sum's own
-  pub nx-high : (x : ℕ) → x * Y .nxAlone % 2 ^ 12 ≡ 0
+use Rattle.paging.specs.Sound.{Alike, Flag, Sound}
 
 -- bits above A and D, by way of bit 7
 above-seven : (e k : ℕ) → e / 2 ^ (7 + k) ≡ e / 128 / 2 ^ k

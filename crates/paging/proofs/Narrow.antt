@@ -5,7 +5,7 @@ use Prim.Native.Nat.{ℕ, zero, suc, _+_, _-_, _*_, _/_, _%_, _^_, _<_}
 use native.Mathlib.Omega.{arith}
 use lib.Dec.{ltb}
 use Rattle.paging.specs.Layout.{Layout, frameWords, bit, frameOf, compose, withBit}
-use Rattle.paging.proofs.Layouts.{Flag, Sound}
+use Rattle.paging.specs.Sound.{Flag, Sound}
 
 -- a half of a word, and a word with another half
 abbrev pub half : ℕ → ℕ → ℕ

@@ -9,7 +9,8 @@ use lib.ListN.{getD, set, length-set}
 use lib.Seq.{getD-set-same, getD-set-other}
 use borrow.Author.Tests.{ne-eqb}
 use Rattle.paging.specs.Numbers.{all}
-use Rattle.paging.specs.Frame.{isNew, notedAt, Noted}
+use Rattle.paging.specs.NotesCode.{notedAt, Noted}
+use Rattle.paging.specs.Frame.{isNew}
 
 pub not-noted : (map notes : List ℕ) (n f : ℕ) → Noted map notes n → (getD notes (notedAt f) 0 ≡ 1 → ⊥) → isNew map n f ≡ true
 unfolding all

@@ -2,9 +2,7 @@
 -- Guest and Host are two types; only the map, here, turns one into the other.
 use mathlib.Core.Bool.{Bool, cond, not, _&&_}
 use mathlib.Core.List.{List, [], _∷_}
-use mathlib.Core.Path.{_≡_}
-use Prim.Native.Nat.{ℕ, _+_, _/_, _%_, _^_, _<_}
-use lib.Bits.{bitXor}
+use Prim.Native.Nat.{ℕ, _+_, _^_}
 use lib.Dec.{eqb, ltb}
 use lib.ListN.{length, getD}
 use Rattle.paging.specs.declared.Guest.{Guest}
@@ -38,15 +36,6 @@ isNew map n f = all n (λ j. not (eqb (getD map j 0) f))
 -- "a map frame repeats, is 2^40 or more": the frame at each place is below the limit and new among those before it
 unfoldable pub mapFits : ℕ → List ℕ → Bool
 mapFits limit map = all (length map) (λ i. ltb (getD map i 0) limit && isNew map i (getD map i 0))
-
--- where a frame is noted: frames noted at different places differ
-abbrev pub notedAt : ℕ → ℕ
-notedAt f = bitXor f (f / 2 ^ 12) % 2 ^ 12
-
--- the first n frames of a map are noted
-pub record Noted (map notes : List ℕ) (n : ℕ) : Type 0 where
-  pub room : length notes ≡ 4096
-  pub each : (k : ℕ) → k < n → getD notes (notedAt (getD map k 0)) 0 ≡ 1
 
 -- "CR3 frame ≥ G": of a start's CR3s, each names a guest frame
 unfoldable pub cr3sFit : ℕ → List ℕ → Bool

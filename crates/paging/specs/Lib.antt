@@ -3,3 +3,5 @@ pub mod Frame
 pub mod Layout
 pub mod Walk
 pub mod Request
+pub mod Sound
+pub mod NotesCode

@@ -12,8 +12,8 @@ use Rattle.paging.specs.Walk.{start, step}
 use Rattle.rules.specs.declared.Event.{Event}
 use Rattle.rules.specs.History.{eventAt, wordsAt}
 use Rattle.rules.specs.View.{viewOf}
-use Rattle.rules.proofs.Views.{Coherent}
-use Rattle.rules.proofs.Steps.{Kept, begin}
+use Rattle.rules.specs.Coherent.{Coherent}
+use Rattle.rules.specs.Kept.{Kept, begin}
 use Rattle.rules.proofs.Theorems.{view-coherent}
 use Rattle.tables.specs.declared.Walked.{Walked}
 use Rattle.tables.specs.declared.Walked.the-variants.{Whole}

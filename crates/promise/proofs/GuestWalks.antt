@@ -11,11 +11,11 @@ use Rattle.paging.specs.declared.Step.{Step}
 use Rattle.paging.specs.declared.Step.the-variants.{On, Absent, Beyond, Complete}
 use Rattle.paging.specs.Layout.{Layout, get, put, index, withA}
 use Rattle.paging.specs.Walk.{step}
-use Rattle.paging.proofs.Layouts.{Sound}
+use Rattle.paging.specs.Sound.{Sound}
 use Rattle.paging.proofs.Indices.{index-small}
 use Rattle.rules.specs.View.{View}
-use Rattle.rules.proofs.Views.{Coherent}
-use Rattle.rules.proofs.Steps.{Kept, extend}
+use Rattle.rules.specs.Coherent.{Coherent}
+use Rattle.rules.specs.Kept.{Kept, extend}
 use Rattle.tables.specs.declared.Walked.{Walked}
 use Rattle.tables.specs.declared.Walked.the-variants.{Whole, Fault}
 use Rattle.tables.specs.Steps.{GuestWalk, byStep, walkFrom}

@@ -14,7 +14,7 @@ use Rattle.paging.proofs.Tests.{false-T}
 use Rattle.rules.specs.declared.Event.{Event}
 use Rattle.rules.specs.History.{Setup, isInvlpg, isCr3Write, isBy, eventAt, wordsAt, cr3At}
 use Rattle.rules.specs.View.{View, viewOf, endsCompleteOf}
-use Rattle.rules.proofs.Steps.{stay}
+use Rattle.rules.specs.Kept.{stay}
 use Rattle.tables.specs.declared.Path.{Path}
 use Rattle.tables.specs.State.{Machine, State, slotCount, markOf, pageIn, placeIn, rightsIn, rootOf, nextEntry, pathTo}
 use Rattle.trees.proofs.Trees.{Laid, shd}

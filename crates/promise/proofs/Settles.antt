@@ -14,8 +14,9 @@ use Rattle.rules.specs.declared.Outcome.the-variants.{Address, Fault}
 use Rattle.rules.specs.View.{View}
 use Rattle.rules.specs.Outcome.{given, Permitted}
 use Rattle.rules.proofs.Order.{Mem}
-use Rattle.rules.proofs.Views.{Coherent}
-use Rattle.rules.proofs.Steps.{Kept, held-is-kept}
+use Rattle.rules.specs.Coherent.{Coherent}
+use Rattle.rules.specs.Kept.{Kept}
+use Rattle.rules.proofs.Steps.{held-is-kept}
 
 -- a held completed walk to a frame, with at least these rights
 pub record Backed (seen : View) (k : ℕ) (g : Guest) (rights : ℕ) : Type 0 where

@@ -18,7 +18,7 @@ use Rattle.rules.specs.declared.Outcome.{Outcome}
 use Rattle.rules.specs.History.{Fit, eventAt}
 use Rattle.rules.specs.View.{View}
 use Rattle.rules.specs.Outcome.{Permitted}
-use Rattle.rules.proofs.Views.{Coherent}
+use Rattle.rules.specs.Coherent.{Coherent}
 use Rattle.rules.proofs.Theorems.{a-list}
 use Rattle.tables.specs.declared.Walked.{Walked}
 use Rattle.tables.specs.declared.Walked.the-variants.{Fault}

@@ -10,7 +10,7 @@ use Rattle.cursor.specs.Text.{lineAt, pastBlanks}
 use Rattle.sections.specs.declared.Section.the-variants.{Map, Cr3s, Words, Events, Questions}
 use Rattle.sections.specs.Sections.{got, refused, section, Puzzle, ended, puzzleOf}
 use Rattle.sections.proofs.Ranged.{both, Ranged, ranged}
-use Rattle.puzzle.specs.Parts.{lists}
+use Rattle.puzzle.specs.PartsCode.{lists}
 use Rattle.puzzle.proofs.Chain.{fromCr3s, fromWords, fromEvents, fromQuestions, fromEnd}
 
 pub record InRange (z : Puzzle) : Type 0 where

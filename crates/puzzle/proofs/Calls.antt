@@ -13,7 +13,7 @@ use Rattle.puzzle.specs.declared.ReadResult.{ReadResult}
 use Rattle.puzzle.specs.declared.ReadResult.the-variants.{Accepted, Refused}
 use Rattle.sections.specs.Sections.{Got, got, refused, Puzzle, puzzleOf, wordRange}
 use Rattle.puzzle.specs.Buffers.{Buffers, buffers, after, withPairs, wordsOf, laid, verdictOf, answer}
-use Rattle.puzzle.specs.Parts.{WordsBelow, fronts, Whole, accepts}
+use Rattle.puzzle.specs.PartsCode.{WordsBelow, fronts, Whole, accepts}
 use Rattle.paging.proofs.Tests.{both}
 use Rattle.sections.proofs.Ranged.{Ranged}
 use Rattle.puzzle.proofs.Accepted.{accepted}

@@ -5,7 +5,7 @@ use Prim.Native.Nat.{ℕ}
 use Rattle.sections.specs.Sections.{refused, Puzzle, puzzleOf}
 use Rattle.puzzle.specs.declared.ReadResult.{ReadResult}
 use Rattle.puzzle.specs.declared.ReadResult.the-variants.{Accepted, Refused}
-use Rattle.puzzle.specs.Parts.{Whole, SectionsAre}
+use Rattle.puzzle.specs.PartsCode.{Whole, SectionsAre}
 
 abbrev pub SectionsBy : List ℕ → Puzzle → Puzzle → ReadResult → Type 0
 SectionsBy text old new (Accepted g p w e q) = Whole text old new g p w e q

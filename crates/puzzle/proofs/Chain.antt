@@ -13,8 +13,8 @@ use Rattle.sections.specs.declared.Section.the-variants.{Map, Cr3s, Words, Even
 use Rattle.puzzle.specs.declared.ReadResult.{ReadResult}
 use Rattle.puzzle.specs.declared.ReadResult.the-variants.{Accepted, Refused}
 use Rattle.sections.specs.Sections.{Got, got, refused, _then_, section, Puzzle, ended, puzzleOf}
-use Rattle.sections.specs.Parts.{Kept}
-use Rattle.puzzle.specs.Parts.{lists, fronts, EndIs, SectionsAre}
+use Rattle.sections.specs.PartsCode.{Kept}
+use Rattle.puzzle.specs.PartsCode.{lists, fronts, EndIs, SectionsAre}
 use Rattle.puzzle.proofs.Cases.{sections-by}
 
 module _ (text : List ℕ) where

@@ -9,9 +9,9 @@ use lib.Seq.{drop-cons, getD-take, take-suc-set, length-take-le, set-append-left
 use Rattle.puzzle.specs.declared.ReadResult.{ReadResult}
 use Rattle.puzzle.specs.declared.ReadResult.the-variants.{Accepted, Refused}
 use Rattle.sections.specs.Sections.{Puzzle, puzzleOf}
-use Rattle.sections.specs.Parts.{Kept}
+use Rattle.sections.specs.PartsCode.{Kept}
 use Rattle.puzzle.specs.Buffers.{withPairs, laid, countsOf, verdictOf}
-use Rattle.puzzle.specs.Parts.{WordsBelow, fronts, Whole, SectionsAre}
+use Rattle.puzzle.specs.PartsCode.{WordsBelow, fronts, Whole, SectionsAre}
 
 -- ---- the front of a list
 

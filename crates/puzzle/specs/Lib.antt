@@ -1,3 +1,3 @@
 pub mod Buffers
 pub mod Setup
-pub mod Parts
+pub mod PartsCode

@@ -9,7 +9,7 @@ ghost use lib.ListN.{length, take, replicate};
 ghost use Rattle.cursor.specs.Text.{Stands};
 ghost use Rattle.sections.specs.Sections.{puzzleOf};
 ghost use Rattle.puzzle.specs.Buffers.{buffers, after, withPairs, laid, verdictOf, answer, readCall};
-ghost use Rattle.puzzle.specs.Parts.{lists, LongEnough, EndIs, SectionsAre, WordsBelow, Lengths, accepts};
+ghost use Rattle.puzzle.specs.PartsCode.{lists, LongEnough, EndIs, SectionsAre, WordsBelow, Lengths, accepts};
 
 // The count of each section, or a refusal number and its line.
 pub enum ReadResult {

@@ -8,8 +8,8 @@ use lib.ListN.{length, drop, getD, set, drop-of-length-le, length-drop}
 use lib.Seq.{drop-cons}
 use Rattle.cursor.specs.Text.{digitsOf}
 use Rattle.render.specs.Render.{numbers}
-use Rattle.render.specs.Written.{Out, outOf, written}
-use Rattle.render.specs.Lines.{pairLine, pairLines}
+use Rattle.render.specs.WrittenCode.{Out, outOf, written}
+use Rattle.render.specs.LinesCode.{pairLine, pairLines}
 use Rattle.render.proofs.Writes.{written-append}
 
 pub written-first : (x : ℕ) (xs : List ℕ) (at : ℕ) (buffer : List ℕ) → written xs (outOf (at + 1) (set buffer at x)) ≡ written (x ∷ xs) (outOf at buffer)

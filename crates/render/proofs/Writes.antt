@@ -6,7 +6,7 @@ use native.Mathlib.Numerals.{add-one}
 use native.Mathlib.Omega.{arith}
 use lib.ListN.{length, drop, set}
 use lib.Seq.{sets, sets-eq}
-use Rattle.render.specs.Written.{Out, outOf, written}
+use Rattle.render.specs.WrittenCode.{Out, outOf, written}
 
 pub written-append : (xs ys : List ℕ) (o : Out) → written (xs ++ ys) o ≡ written ys (written xs o)
 unfolding written

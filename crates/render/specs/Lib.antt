@@ -1,3 +1,3 @@
 pub mod Render
-pub mod Written
-pub mod Lines
+pub mod WrittenCode
+pub mod LinesCode

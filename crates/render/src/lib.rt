@@ -7,8 +7,8 @@ ghost use Prim.Native.Nat.{_+_, _*_, _<_, _≤_};
 ghost use lib.ListN.{length};
 ghost use Rattle.cursor.specs.Text.{digitsOf};
 ghost use Rattle.render.specs.Render.{line, renderEvent};
-ghost use Rattle.render.specs.Written.{outOf, written};
-ghost use Rattle.render.specs.Lines.{pairLine, pairLines, questionLines, Mapped, AllMapped};
+ghost use Rattle.render.specs.WrittenCode.{outOf, written};
+ghost use Rattle.render.specs.LinesCode.{pairLine, pairLines, questionLines, Mapped, AllMapped};
 
 // All digits but the last are those of a tenth.
 fn put_digits(out: &mut [u8], at: usize, n: u64) -> usize

@@ -10,7 +10,7 @@ use Rattle.rules.specs.declared.Outcome.{Outcome}
 use Rattle.rules.specs.History.{wordsAt, cr3At}
 use Rattle.rules.specs.View.{viewOf}
 use Rattle.rules.specs.Known.{Puzzle, filled, knownSetup, Solved, AllSolved, starred, sides}
-use Rattle.rules.proofs.Order.{keep}
+use Rattle.rules.specs.Counts.{keep}
 use Rattle.rules.proofs.Views.{coherent}
 use Rattle.rules.proofs.Walks.{some, add, chain, closed, walksAt}
 use Rattle.rules.proofs.Lists.{insert, insertAll, outcomes, answers, answers-right}

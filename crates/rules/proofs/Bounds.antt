@@ -17,7 +17,7 @@ use Rattle.rules.specs.declared.Outcome.the-variants.{Address, Fault}
 use Rattle.rules.specs.View.{View}
 use Rattle.rules.specs.Outcome.{given, Permitted, Before, Rises, RightList}
 use Rattle.rules.proofs.Order.{Mem}
-use Rattle.rules.proofs.Views.{Coherent, Rooted}
+use Rattle.rules.specs.Coherent.{Coherent, Rooted}
 use Rattle.rules.proofs.Steps.{held-is-kept, kept-inside}
 
 -- an outcome's place among the frames 0 to G - 1 and the codes a, 1 + a, 9 + a

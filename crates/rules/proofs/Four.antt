@@ -8,7 +8,7 @@ use Rattle.paging.specs.declared.Walk.{Walk}
 use Rattle.paging.specs.declared.Step.the-variants.{On}
 use Rattle.rules.specs.View.{View, Quiet}
 use Rattle.rules.specs.Held.{Reads, begun, read, Held, complete, partial, Four}
-use Rattle.rules.proofs.Views.{Coherent}
+use Rattle.rules.specs.Coherent.{Coherent}
 
 module _ (seen : View) {L G : ℕ} (law : Coherent seen L G) where
   level-le : {s t : ℕ} {w : Walk} → Reads seen s t w → w .level ≤ L

@@ -13,16 +13,19 @@ use Rattle.paging.specs.declared.Request.{Request}
 use Rattle.paging.specs.Layout.{pageOf, get, index}
 use Rattle.paging.specs.Request.{requestOf}
 use Rattle.paging.specs.Walk.{start, step}
-use Rattle.paging.proofs.Layouts.{Sound}
+use Rattle.paging.specs.Sound.{Sound}
 use Rattle.rules.specs.declared.Event.{Event}
 use Rattle.rules.specs.declared.Question.{Question}
 use Rattle.rules.specs.declared.Outcome.{Outcome}
 use Rattle.rules.specs.History.{Setup, isStore, isInvlpg, isCr3Write, isBy, eventAt, wordsAt, cr3At, stored, loaded}
 use Rattle.rules.specs.View.{View, viewOf}
 use Rattle.rules.specs.Outcome.{Permitted, RightList, RightAt}
-use Rattle.rules.proofs.Order.{keep}
-use Rattle.rules.proofs.Views.{Coherent, coherent}
-use Rattle.rules.proofs.Steps.{Kept, begin, extend, stay, ends, never, held-is-kept}
+use Rattle.rules.specs.Counts.{keep}
+use Rattle.rules.specs.Coherent.{Coherent}
+use Rattle.rules.proofs.Views.{coherent}
+use Rattle.rules.specs.Kept.{Kept, begin, extend, stay, ends}
+use Rattle.rules.proofs.Steps.{never, held-is-kept}
+use Rattle.rules.specs.Counts.{counts}
 
 module _ (short long : View) (φ : ℕ → ℕ) where
   -- event n + 1 of the longer history ends nothing, or it is the next one of the shorter
@@ -85,10 +88,6 @@ module _ (short long : View) (φ : ℕ → ℕ) where
         )
 
 -- ---- histories
-
--- "Only events 1, 2 and 3 count here"
-abbrev pub counts : Event → Bool
-counts e = isStore e || isInvlpg e || isCr3Write e
 
 -- how many of the first n events pass the test
 unfoldable pub passed : (Event → Bool) → List Event → ℕ → ℕ

@@ -17,8 +17,9 @@ use Rattle.rules.specs.declared.Outcome.the-variants.{Address, Fault}
 use Rattle.rules.specs.View.{View}
 use Rattle.rules.specs.Outcome.{given, Permitted, Before, Rises, RightList}
 use Rattle.rules.proofs.Order.{Mem, rises-unique}
-use Rattle.rules.proofs.Views.{Coherent}
-use Rattle.rules.proofs.Steps.{Kept, begin, extend, held-is-kept}
+use Rattle.rules.specs.Coherent.{Coherent}
+use Rattle.rules.specs.Kept.{Kept, begin, extend}
+use Rattle.rules.proofs.Steps.{held-is-kept}
 use Rattle.rules.proofs.Walks.{walksAt, walks-held}
 
 -- THERE IS ONE RIGHT LIST

@@ -10,14 +10,11 @@ use lib.ListN.{length}
 use Rattle.rules.specs.declared.Outcome.{Outcome}
 use Rattle.rules.specs.declared.Outcome.the-variants.{Address, Fault}
 use Rattle.rules.specs.Outcome.{Before, Rises}
+use Rattle.rules.specs.Counts.{keep}
 
 module _ {A : Type 0} where
   abbrev pub Mem : A → List A → Type 0
   Mem a l = List·Memᴰ a l
-
-  unfoldable pub keep : (A → Bool) → List A → List A
-  keep p [] = []
-  keep p (x ∷ xs) = cond (p x) (x ∷ keep p xs) (keep p xs)
 
   pub keep-e : (p : A → Bool) (xs : List A) (a : A) → Mem a (keep p xs) → Mem a xs × T (p a)
   unfolding keep

@@ -10,12 +10,8 @@ use Rattle.paging.specs.declared.Walk.{Walk}
 use Rattle.paging.specs.declared.Step.the-variants.{On}
 use Rattle.rules.specs.View.{View, Quiet}
 use Rattle.rules.specs.Held.{Reads, begun, read, Held, partial, complete}
-use Rattle.rules.proofs.Views.{Coherent}
-
--- level 0 is that of complete walks, the others are those of partial ones
-abbrev pub byLevel : Bool → Bool → ℕ → Bool
-byLevel p c zero = c
-byLevel p c (suc l) = p
+use Rattle.rules.specs.Coherent.{Coherent}
+use Rattle.rules.specs.Kept.{byLevel, ends, Kept, begin, extend, stay}
 
 quiet-suc : (e : ℕ → Bool) (a n : ℕ) → Quiet e a n → T (not (e n)) → Quiet e a (suc n)
 quiet-suc e a n q t k lo hi = go (ℕ-discrete k n)
@@ -37,15 +33,6 @@ never p c zero h k = k
 never p c (suc l) h k = h
 
 module _ (seen : View) where
-  -- whether event k + 1 ends this walk
-  abbrev pub ends : Walk → ℕ → Bool
-  ends w k = byLevel (seen .endsPartial k) (seen .endsComplete k) (w .level)
-
-  pub data Kept : ℕ → Walk → Type 0 where
-    begin : {n : ℕ} {w : Walk} → w ≡ seen .begins n → Kept n w
-    extend : {n : ℕ} {w w′ : Walk} → Kept n w → seen .steps n w ≡ On w′ → Kept n w′
-    stay : {n : ℕ} {w : Walk} → Kept n w → T (not (ends w n)) → Kept (suc n) w
-
   ends-partial : (w : Walk) (k : ℕ) → 0 < w .level → ends w k ≡ seen .endsPartial k
   ends-partial w k h = as-partial (seen .endsPartial k) (seen .endsComplete k) (w .level) h
 

@@ -1,5 +1,5 @@
 -- What is proved of the rules, in reading order. Each theorem stands here with its whole statement; the last line names
--- its proof. A view is what one processor and one page see of a history (specs/View); `Coherent` and `Rooted` (Views)
+-- its proof. A view is what one processor and one page see of a history (specs/View); `Coherent` and `Rooted` (specs/Coherent)
 -- hold of every view of a history that fits, by the first two.
 use mathlib.Core.Path.{_≡_}
 use mathlib.Core.Logic.{_↔_}
@@ -10,7 +10,7 @@ use lib.ListN.{length}
 use Rattle.paging.specs.declared.Walk.{Walk}
 use Rattle.paging.specs.Layout.{pageOf}
 use Rattle.paging.specs.Request.{requestOf}
-use Rattle.paging.proofs.Layouts.{Sound}
+use Rattle.paging.specs.Sound.{Sound}
 use Rattle.rules.specs.declared.Event.{Event}
 use Rattle.rules.specs.declared.Question.{Question}
 use Rattle.rules.specs.declared.Outcome.{Outcome}
@@ -19,7 +19,7 @@ use Rattle.rules.specs.View.{View, viewOf}
 use Rattle.rules.specs.Held.{Held, Four}
 use Rattle.rules.specs.Outcome.{RightAt}
 use Rattle.rules.specs.Known.{AllSolved, starred, sides}
-use Rattle.rules.proofs.Order.{keep}
+use Rattle.rules.specs.Counts.{keep}
 use Rattle.rules.proofs.Views as L
 use Rattle.rules.proofs.Steps as S
 use Rattle.rules.proofs.Four as F
@@ -27,21 +27,24 @@ use Rattle.rules.proofs.Inert as I
 use Rattle.rules.proofs.Lists as R
 use Rattle.rules.proofs.Bounds as B
 use Rattle.rules.proofs.Answered as K
+use Rattle.rules.specs.Coherent.{Coherent, Rooted}
+use Rattle.rules.specs.Kept.{Kept}
+use Rattle.rules.specs.Counts.{counts}
 
 module _ (U : Setup) (es : List Event) (p v : ℕ) where
-  pub view-coherent : Sound (U .tables) → L.Coherent (viewOf U es p v) (U .tables .levels) (U .frames)
+  pub view-coherent : Sound (U .tables) → Coherent (viewOf U es p v) (U .tables .levels) (U .frames)
   view-coherent = L.coherent U es p v
 
-  pub view-rooted : Fit U es → p < U .processors → L.Rooted (viewOf U es p v) (U .frames)
+  pub view-rooted : Fit U es → p < U .processors → Rooted (viewOf U es p v) (U .frames)
   view-rooted = L.rooted U es p v
 
-module _ (seen : View) {levels frames : ℕ} (law : L.Coherent seen levels frames) where
+module _ (seen : View) {levels frames : ℕ} (law : Coherent seen levels frames) where
   -- "there are moments t4 ≤ t3 ≤ t2 ≤ t1 …": the sentence written out is the rule, of complete walks of four levels
   pub four : levels ≡ 4 → (n : ℕ) (w : Walk) → Four seen n w ↔ ((w .level ≡ 0) × Held seen n w)
   four = F.four seen law
 
   -- the rule by moments is the rule step by step: begin, extend, stay
-  pub held-is-kept : (n : ℕ) (w : Walk) → Held seen n w ↔ S.Kept seen n w
+  pub held-is-kept : (n : ℕ) (w : Walk) → Held seen n w ↔ Kept seen n w
   held-is-kept = S.held-is-kept seen law
 
 module _ (U : Setup) (es : List Event) (q : Question) (ok : Sound (U .tables)) where
@@ -62,7 +65,7 @@ module _ (U : Setup) (es : List Event) (q : Question) (ok : Sound (U .tables)) w
   at-most fit h n os r = B.right-length _ _ (view-coherent U es (q .proc) _ ok) (view-rooted U es (q .proc) _ fit h) n os r
 
 -- events that change nothing can be taken out or put in: `f` keeps all events that count
-pub without-inert : (f : Event → Bool) → ((e : Event) → f e ≡ false → I.counts e ≡ false) → (U : Setup) (es : List Event) → Sound (U .tables)
+pub without-inert : (f : Event → Bool) → ((e : Event) → f e ≡ false → counts e ≡ false) → (U : Setup) (es : List Event) → Sound (U .tables)
     → (q : Question) (os : List Outcome) → RightAt U es q (length es) os ↔ RightAt U (keep f es) q (length (keep f es)) os
 without-inert = I.fewer-right
 

@@ -1,4 +1,4 @@
--- What the theorems ask of a view, and that the view of a history has it.
+-- The view of a history is coherent, and of a history that fits it is rooted.
 use mathlib.Core.Path.{_≡_, refl, ap}
 use mathlib.Core.Bool.{Bool, true, false, cond, not, _&&_}
 use mathlib.Core.List.{List}
@@ -8,42 +8,18 @@ use native.Mathlib.Decide.{decLt}
 use lib.Dec.{T, T-not, eqb→eq}
 use lib.ListN.{length, List·getD-eq-default}
 use Rattle.paging.specs.declared.Walk.{Walk}
-use Rattle.paging.specs.declared.Step.the-variants.{On, Complete}
 use Rattle.paging.specs.Frame.{guest}
 use Rattle.paging.specs.Layout.{rightsOf}
 use Rattle.paging.specs.Walk.{start}
 use Rattle.paging.proofs.Steps.{Goes, step-complete, goes, completed}
-use Rattle.paging.proofs.Layouts.{Sound}
+use Rattle.paging.specs.Sound.{Sound}
 use Rattle.paging.proofs.Rights.{meet-small}
 use Rattle.paging.proofs.Tests.{T-true, and-l, and-r}
 use Rattle.rules.specs.declared.Event.{Event}
 use Rattle.rules.specs.History.{Setup, Fit, isBy, isCr3Write, eventAt, cr3At}
-use Rattle.rules.specs.View.{View, viewOf}
+use Rattle.rules.specs.View.{viewOf}
 use Rattle.rules.proofs.Ranges.{cr3-within}
-
--- a walk went on one level down, to a frame below G, with rights
-pub record Down (G : ℕ) (w w′ : Walk) : Type 0 where
-  pub level : w .level ≡ suc (w′ .level)
-  pub inside : w′ .frame .0 < G
-  pub small : w′ .rights < 8
-
--- L levels, frames below G
-pub record Coherent (seen : View) (L G : ℕ) : Type 0 where
-  pub some-level : 0 < L
-  pub top : (k : ℕ) → seen .begins k .level ≡ L
-  pub full : (k : ℕ) → seen .begins k .rights < 8
-  -- CR3 changes only where partial walks end
-  pub root-kept : (k : ℕ) → T (not (seen .endsPartial k)) → seen .begins (suc k) ≡ seen .begins k
-  pub down : (k : ℕ) (w w′ : Walk) → seen .steps k w ≡ On w′ → Down G w w′
-  -- exactly the walks of level 0 are complete
-  pub done : (k : ℕ) (w : Walk) → w .level ≡ 0 → seen .steps k w ≡ Complete
-  pub undone : (k : ℕ) (w : Walk) → seen .steps k w ≡ Complete → w .level ≡ 0
-
--- the walks that begin stand below G too: this needs a history that fits
-abbrev pub Rooted : View → ℕ → Type 0
-Rooted seen G = (k : ℕ) → seen .begins k .frame .0 < G
-
--- ---- the view of a history
+use Rattle.rules.specs.Coherent.{Down, Coherent, Rooted}
 
 -- a CR3 write of p ends partial walks
 cr3-ends : (U : Setup) (es : List Event) (p v k : ℕ) → T (isBy p (eventAt es k) && isCr3Write (eventAt es k)) → T (viewOf U es p v .endsPartial k)

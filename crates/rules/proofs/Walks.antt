@@ -11,9 +11,11 @@ use Rattle.paging.specs.declared.Step.{Step}
 use Rattle.paging.specs.declared.Step.the-variants.{On, Absent, Beyond, Complete}
 use Rattle.paging.proofs.Tests.{and-l, and-r, or-l, or-r, or-cases}
 use Rattle.rules.specs.View.{View}
-use Rattle.rules.proofs.Order.{Mem, keep, keep-e, keep-i}
-use Rattle.rules.proofs.Views.{Coherent}
-use Rattle.rules.proofs.Steps.{Kept, begin, extend, stay, ends, kept-level}
+use Rattle.rules.specs.Counts.{keep}
+use Rattle.rules.proofs.Order.{Mem, keep-e, keep-i}
+use Rattle.rules.specs.Coherent.{Coherent}
+use Rattle.rules.specs.Kept.{Kept, begin, extend, stay, ends}
+use Rattle.rules.proofs.Steps.{kept-level}
 
 -- ---- a list in which each walk stands once
 

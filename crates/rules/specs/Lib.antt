@@ -2,6 +2,9 @@ pub mod Refusal
 pub mod History
 pub mod View
 pub mod Held
+pub mod Kept
 pub mod Outcome
 pub mod Numbers
 pub mod Known
+pub mod Coherent
+pub mod Counts

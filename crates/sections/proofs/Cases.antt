@@ -5,7 +5,7 @@ use Prim.Native.Nat.{ℕ, _*_}
 use Rattle.sections.specs.declared.Part.{Part}
 use Rattle.sections.specs.declared.Part.the-variants.{Read, Refused}
 use Rattle.sections.specs.Sections.{Got, refused}
-use Rattle.sections.specs.Parts.{Front, PartIs}
+use Rattle.sections.specs.PartsCode.{Front, PartIs}
 
 abbrev pub PartBy : Got (List ℕ) → ℕ → List ℕ → List ℕ → List ℕ → Part → Type 0
 PartBy m w text old new (Read count c) = Front m text old new (count * w) c

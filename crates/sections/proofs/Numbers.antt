@@ -16,7 +16,7 @@ use Rattle.paging.proofs.Numbers.{between}
 use Rattle.sections.specs.declared.Section.{Section}
 use Rattle.sections.specs.declared.Section.the-variants.{Map, Cr3s, Words, Events, Questions}
 use Rattle.sections.specs.Sections.{Got, got, refused, _then_, judged, due, numbers, width, countRange, inRange, section}
-use Rattle.sections.specs.Parts.{capacity, Front}
+use Rattle.sections.specs.PartsCode.{capacity, Front}
 
 module _ (fits : ℕ → Bool) (text : List ℕ) (at : ℕ) where
   pub due-bad : {line : ℕ} → Bad line ≡ nextAt text at → due fits text at ≡ refused 10 line

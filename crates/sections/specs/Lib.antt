@@ -1,2 +1,2 @@
 pub mod Sections
-pub mod Parts
+pub mod PartsCode

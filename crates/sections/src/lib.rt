@@ -7,7 +7,7 @@ ghost use Prim.Native.Nat.{_*_, _≤_};
 ghost use lib.ListN.{length, take};
 ghost use Rattle.cursor.specs.Text.{Stands};
 ghost use Rattle.sections.specs.Sections.{mapRange, wordRange, aRange, bRange, eventRange, questionRange, width, countRange, inRange, numbers, section};
-ghost use Rattle.sections.specs.Parts.{capacity, PartIs};
+ghost use Rattle.sections.specs.PartsCode.{capacity, PartIs};
 
 // The sections of a puzzle text, in their order.
 pub enum Section {

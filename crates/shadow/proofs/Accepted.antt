@@ -21,7 +21,7 @@ use Rattle.tables.specs.State.{Machine, Shadow, State, machine64, tableCount, r
 use Rattle.tables.proofs.Names.{few, root-small}
 use Rattle.lawful.specs.Rules.{lawful, tableRight, tableWhole, recordRight, entryRight, isRoot, namesOf, slotRight, isOnPath}
 use Rattle.shadow.specs.After.{asSetup, rangesFit, lengthsFit, poolFits, inPool, framesFit, tooFew, callRefusal}
-use Rattle.shadow.specs.Ready.{Ready, Standing, Fitting}
+use Rattle.shadow.specs.ReadyCode.{Ready, Standing, Fitting}
 use Rattle.shadow.proofs.Sizing.{Ranged, ranged, sized, pool-room, Exact, exact, hosts-below}
 
 -- ---- tables of tests

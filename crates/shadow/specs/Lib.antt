@@ -1,3 +1,3 @@
 pub mod After
-pub mod Ready
+pub mod ReadyCode
 pub mod Runs

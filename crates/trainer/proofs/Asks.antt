@@ -29,9 +29,9 @@ use Rattle.rules.specs.Numbers.{eventsOf}
 use Rattle.listing.proofs.Pairs.{pairs-length}
 use Rattle.listing.proofs.Accepts as accepts
 use Rattle.render.specs.Render.{line, renderOutcomes, renderQuestion}
-use Rattle.render.specs.Lines.{pairLine, pairLines, questionLines, Mapped, AllMapped}
+use Rattle.render.specs.LinesCode.{pairLine, pairLines, questionLines, Mapped, AllMapped}
 use Rattle.trainer.specs.Answers.{RightOf}
-use Rattle.trainer.specs.Parts.{Posed, Found}
+use Rattle.trainer.specs.PartsCode.{Posed, Found}
 
 -- ---- the list call
 

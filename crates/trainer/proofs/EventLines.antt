@@ -15,7 +15,7 @@ use Rattle.shadow.specs.declared.Answer.{Answer}
 use Rattle.shadow.specs.declared.Answer.the-variants.{Done, Address, Fault, Again, NoStep, Refused}
 use Rattle.shadow.specs.After.{kindOf, Result, gives, after, started, setupRefusal, afterSetup}
 use Rattle.shadow.specs.Runs.{stateAfter}
-use Rattle.render.specs.Written.{Out, outOf, written}
+use Rattle.render.specs.WrittenCode.{Out, outOf, written}
 use Rattle.render.proofs.Writes.{written-append}
 use Rattle.trainer.specs.Call.{joined}
 use Rattle.trainer.specs.Run.{answerLine, eventLine}

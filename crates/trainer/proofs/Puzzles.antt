@@ -24,7 +24,7 @@ use Rattle.shadow.specs.After as machine
 use Rattle.rules.specs.Refusal.{test, refusal}
 use Rattle.trainer.specs.Call.{posed}
 use Rattle.trainer.specs.Run.{sizesOf}
-use Rattle.trainer.specs.Parts.{Posed, Startable, Printable}
+use Rattle.trainer.specs.PartsCode.{Posed, Startable, Printable}
 
 all-each : (n : ℕ) (f : ℕ → Bool) → ((k : ℕ) → k < n → f k ≡ true) → all n f ≡ true
 unfolding all

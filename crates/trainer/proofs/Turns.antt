@@ -12,11 +12,11 @@ use Rattle.rules.proofs.Theorems.{one-list, a-list}
 use Rattle.rules.specs.Numbers.{eventsOf, questionOf}
 use Rattle.puzzle.specs.Buffers.{Buffers}
 use Rattle.render.specs.Render.{renderQuestion}
-use Rattle.render.specs.Written.{Out, outOf, written}
+use Rattle.render.specs.WrittenCode.{Out, outOf, written}
 use Rattle.render.proofs.Writes.{written-append}
 use Rattle.trainer.specs.Call.{joined}
 use Rattle.trainer.specs.Answers.{RightOf, Rendering}
-use Rattle.trainer.specs.Parts.{Answered}
+use Rattle.trainer.specs.PartsCode.{Answered}
 
 pub joined-more : (n : ℕ) (f : ℕ → List ℕ) → joined (n + 1) f ≡ joined n f ++ f n
 unfolding joined

@@ -12,14 +12,14 @@ use Rattle.sections.specs.Sections.{Got, got, refused, Puzzle, puzzleOf}
 use Rattle.puzzle.specs.declared.ReadResult.{ReadResult}
 use Rattle.puzzle.specs.declared.ReadResult.the-variants.{Accepted, Refused}
 use Rattle.puzzle.specs.Buffers.{Buffers, buffers, After, after, laid, wordsOf, answer, readCall}
-use Rattle.puzzle.specs.Parts.{Lengths}
+use Rattle.puzzle.specs.PartsCode.{Lengths}
 use Rattle.puzzle.proofs.Accepted.{accepted}
 use Rattle.puzzle.proofs.Theorems as reads
-use Rattle.render.specs.Written.{Out, outOf, written}
+use Rattle.render.specs.WrittenCode.{Out, outOf, written}
 use Rattle.render.proofs.Writes.{written-at, written-front}
 use Rattle.trainer.specs.declared.Written.the-variants.{Bytes}
 use Rattle.trainer.specs.Call.{posed, puzzleIn, Lines, Prints, Call}
-use Rattle.trainer.specs.Parts.{Printable, Counts, cut}
+use Rattle.trainer.specs.PartsCode.{Printable, Counts, cut}
 use Rattle.trainer.proofs.Puzzles.{Sizes, sizes, ready}
 
 abbrev pub zeros : Buffers

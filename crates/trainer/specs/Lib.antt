@@ -1,4 +1,4 @@
 pub mod Call
 pub mod Answers
 pub mod Run
-pub mod Parts
+pub mod PartsCode

@@ -10,11 +10,11 @@ ghost use lib.ListN.{length};
 ghost use Rattle.puzzle.specs.Buffers.{buffers};
 ghost use Rattle.rules.specs.Numbers.{questionOf};
 ghost use Rattle.tables.specs.State.{machine64, shadowOf, stateOf};
-ghost use Rattle.render.specs.Written.{outOf, written};
+ghost use Rattle.render.specs.WrittenCode.{outOf, written};
 ghost use Rattle.trainer.specs.Call.{Call};
 ghost use Rattle.trainer.specs.Answers.{AnswersOf, AnswersCall};
 ghost use Rattle.trainer.specs.Run.{answerLine, RunCall};
-ghost use Rattle.trainer.specs.Parts.{LinesOf, Posed, Found, Answered, Startable, EventsPut, RunPut, Printable, AllPut, Counts, cut};
+ghost use Rattle.trainer.specs.PartsCode.{LinesOf, Posed, Found, Answered, Startable, EventsPut, RunPut, Printable, AllPut, Counts, cut};
 
 // The number of bytes written, or why the call was refused.
 pub enum Written {

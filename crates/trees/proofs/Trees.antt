@@ -8,7 +8,8 @@ use native.Mathlib.Omega.{arith}
 use lib.Dec.{eqb}
 use lib.ListN.{length, getD}
 use Rattle.paging.specs.Layout.{Layout, frameWords, bit, compose, rightsOf}
-use Rattle.paging.proofs.Layouts.{Sound, get-past}
+use Rattle.paging.specs.Sound.{Sound}
+use Rattle.paging.proofs.Layouts.{get-past}
 use Rattle.tables.specs.State.{Machine, Shadow, levelOf, shadows, tableCount, ownerOf, entryCount, entryOf, named}
 use Rattle.lawful.specs.Rules.{isLeaf, isBranch, isRoot}
 

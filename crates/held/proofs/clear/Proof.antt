@@ -3,7 +3,7 @@ use mathlib.Core.Path.{_≡_, refl, sym, _∙_, ap}
 use Prim.Native.Nat.{ℕ, _+_, _-_, _≤_}
 use native.Mathlib.Omega.{arith}
 use lib.ListN.{length, set, length-set}
-use Rattle.held.specs.Follow.{cleared}
+use Rattle.held.specs.FollowCode.{cleared}
 use Rattle.held.proofs.Follows.{clear-turn, clear-none}
 use Rattle.held.proofs.clear.Statement.{statement}
 use Rattle.held.proofs.clear.Tie as tie

@@ -4,7 +4,7 @@ use Prim.Native.Nat.{ℕ}
 use native.Mathlib.Omega.{arith}
 use lib.ListN.{length, getD, set, length-set}
 use Rattle.held.specs.Work.{cell, HasByte}
-use Rattle.held.specs.Follow.{followed}
+use Rattle.held.specs.FollowCode.{followed}
 use Rattle.held.proofs.Cells.{cell-below}
 use Rattle.held.proofs.Follows.{below, follow-set, follow-new, follow-on, stops}
 use Rattle.held.proofs.follow.Statement.{statement}

@@ -8,7 +8,7 @@ use Rattle.paging.specs.Layout.{tables64, frameWords, get}
 use Rattle.paging.specs.Walk.{step}
 use Rattle.paging.proofs.Steps.{step-complete}
 use Rattle.paging.proofs.Indices.{index-small}
-use Rattle.held.specs.Follow.{stepIn}
+use Rattle.held.specs.FollowCode.{stepIn}
 use Rattle.held.proofs.next.Statement.{statement}
 use Rattle.held.proofs.next.Tie as tie
 

@@ -6,7 +6,7 @@ use mathlib.Core.List.{List}
 use lib.ListN.{length}
 use Rattle.paging.specs.Numbers.{each}
 use Rattle.paging.proofs.Numbers.{each-none, each-more}
-use Rattle.held.specs.Follow.{walkOf, reread, rereadAll}
+use Rattle.held.specs.FollowCode.{walkOf, reread, rereadAll}
 use Rattle.held.proofs.reread_all.Statement.{statement}
 use Rattle.held.proofs.reread_all.Tie as tie
 use Rattle.paging.specs.Layout.{tables64}

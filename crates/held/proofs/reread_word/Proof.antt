@@ -3,7 +3,7 @@ use mathlib.Core.Path.{_≡_, refl, sym, _∙_, ap}
 use Prim.Native.Nat.{_≤_, _-_}
 use native.Mathlib.Omega.{arith}
 use lib.ListN.{length}
-use Rattle.held.specs.Follow.{rereadWord}
+use Rattle.held.specs.FollowCode.{rereadWord}
 use Rattle.held.proofs.Follows.{reread-turn, reread-done}
 use Rattle.held.proofs.reread_word.Statement.{statement}
 use Rattle.held.proofs.reread_word.Tie as tie

@@ -8,7 +8,7 @@ use Rattle.paging.specs.declared.Walk.{Walk}
 use Rattle.paging.specs.Layout.{tables64}
 use Rattle.paging.specs.Walk.{start}
 use Rattle.held.specs.Work.{HasByte}
-use Rattle.held.specs.Follow.{followed, restarted}
+use Rattle.held.specs.FollowCode.{followed, restarted}
 use Rattle.held.proofs.restart.Statement.{statement}
 use Rattle.held.proofs.restart.Tie as tie
 

@@ -4,7 +4,7 @@ use Prim.Native.Nat.{_-_, _≤_}
 use native.Mathlib.Omega.{arith}
 use Rattle.tables.specs.State.{machine64, tableCount}
 use Rattle.tables.proofs.Names.{few}
-use Rattle.lawful.specs.Tally.{Tallied}
+use Rattle.lawful.specs.TallyCode.{Tallied}
 use Rattle.lawful.proofs.tally.Statement.{statement}
 use Rattle.lawful.proofs.tally.Tie as tie
 

@@ -8,7 +8,7 @@ use lib.ListN.{length}
 use Rattle.paging.specs.declared.Request.{Request}
 use Rattle.paging.specs.Numbers.{each}
 use Rattle.paging.proofs.Numbers.{each-none, each-more}
-use Rattle.listing.specs.Collect.{Out, outOf, pushed, serves, addresses}
+use Rattle.listing.specs.CollectCode.{Out, outOf, pushed, serves, addresses}
 use Rattle.listing.proofs.addresses.Statement.{statement}
 use Rattle.listing.proofs.addresses.Tie as tie
 

@@ -9,10 +9,10 @@ use Rattle.paging.specs.declared.Request.{Request}
 use Rattle.paging.specs.Frame.{guest}
 use Rattle.paging.specs.Layout.{tables64}
 use Rattle.paging.proofs.Rights.{request-small}
-use Rattle.held.specs.Follow.{restarted}
-use Rattle.listing.specs.Replay.{Replay, replayOf, replayed}
-use Rattle.listing.specs.Collect.{collected}
-use Rattle.listing.specs.Answer.{stateAt}
+use Rattle.held.specs.FollowCode.{restarted}
+use Rattle.listing.specs.ReplayCode.{Replay, replayOf, replayed}
+use Rattle.listing.specs.CollectCode.{collected}
+use Rattle.listing.specs.AnswerCode.{stateAt}
 use Rattle.listing.proofs.answer.Statement.{statement}
 use Rattle.listing.proofs.answer.Tie as tie
 

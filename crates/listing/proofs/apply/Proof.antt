@@ -6,8 +6,8 @@ use lib.ListN.{set, length-set}
 use borrow.Author.Needs.{needs}
 use Rattle.paging.specs.Layout.{tables64}
 use Rattle.paging.specs.Frame.{guest}
-use Rattle.held.specs.Follow.{restarted}
-use Rattle.listing.specs.Replay.{replayOf}
+use Rattle.held.specs.FollowCode.{restarted}
+use Rattle.listing.specs.ReplayCode.{replayOf}
 use Rattle.listing.proofs.Applies.{forgets-in, applied-store, applied-other, applied-invlpg, applied-cr3, applied-none}
 use Rattle.listing.proofs.apply.Statement.{statement}
 use Rattle.listing.proofs.apply.Tie as tie

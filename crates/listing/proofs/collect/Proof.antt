@@ -3,7 +3,7 @@ use mathlib.Core.Path.{ap₂, _∙_}
 use mathlib.Core.Bool.{Bool}
 use Prim.Native.Nat.{_+_}
 use borrow.Author.Needs.{needs}
-use Rattle.listing.specs.Collect.{Out, pushed, collected}
+use Rattle.listing.specs.CollectCode.{Out, pushed, collected}
 use Rattle.listing.proofs.collect.Statement.{statement}
 use Rattle.listing.proofs.collect.Tie as tie
 

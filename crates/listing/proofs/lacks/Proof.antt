@@ -5,7 +5,7 @@ use Prim.Native.Nat.{ℕ, _*_, _-_, _≤_}
 use native.Mathlib.Omega.{arith}
 use Rattle.paging.specs.Numbers.{some}
 use Rattle.paging.proofs.Numbers.{some-none, some-more, some-i}
-use Rattle.listing.specs.Collect.{lacksAt, lacks}
+use Rattle.listing.specs.CollectCode.{lacksAt, lacks}
 use Rattle.listing.proofs.lacks.Statement.{statement}
 use Rattle.listing.proofs.lacks.Tie as tie
 

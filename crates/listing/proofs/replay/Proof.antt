@@ -6,7 +6,7 @@ use lib.ListN.{length}
 use Rattle.paging.proofs.Numbers.{each-none, each-more}
 use Rattle.rules.specs.declared.Event.{Event}
 use Rattle.rules.specs.Numbers.{eventOf}
-use Rattle.listing.specs.Replay.{Replay, replayOf, Reach, applied, replayed}
+use Rattle.listing.specs.ReplayCode.{Replay, replayOf, Reach, applied, replayed}
 use Rattle.listing.proofs.Applies.{applied-in}
 use Rattle.listing.proofs.replay.Statement.{statement}
 use Rattle.listing.proofs.replay.Tie as tie

@@ -6,7 +6,7 @@ use native.Mathlib.Omega.{arith}
 use borrow.Author.Needs.{needs}
 use Rattle.paging.specs.Numbers.{some}
 use Rattle.paging.proofs.Numbers.{some-none, some-more, some-i}
-use Rattle.listing.specs.Collect.{servesWith, serves}
+use Rattle.listing.specs.CollectCode.{servesWith, serves}
 use Rattle.listing.proofs.serves.Statement.{statement}
 use Rattle.listing.proofs.serves.Tie as tie
 

@@ -6,7 +6,7 @@ use lib.ListN.{getD}
 use borrow.Author.Needs.{needs}
 use borrow.Author.Tests.{eq-eqb, ne-eqb}
 use Rattle.held.specs.Work.{cell}
-use Rattle.held.specs.Follow.{walkOf}
+use Rattle.held.specs.FollowCode.{walkOf}
 use Rattle.held.proofs.Cells.{cell-below}
 use Rattle.listing.proofs.serves_with.Statement.{statement}
 use Rattle.listing.proofs.serves_with.Tie as tie

@@ -6,8 +6,8 @@ use borrow.Author.Needs.{needs}
 use borrow.Author.Tests.{eq-eqb, ne-eqb}
 use Rattle.paging.specs.declared.Walk.{Walk}
 use Rattle.paging.specs.declared.Step.{Step}
-use Rattle.held.specs.Follow.{stepIn}
-use Rattle.listing.specs.Collect.{stopCode}
+use Rattle.held.specs.FollowCode.{stepIn}
+use Rattle.listing.specs.CollectCode.{stopCode}
 use Rattle.listing.proofs.Bytes.{byte-walk}
 use Rattle.listing.proofs.stop_at.Statement.{statement}
 use Rattle.listing.proofs.stop_at.Tie as tie

@@ -8,7 +8,8 @@ use lib.Dec.{ltb}
 use lib.ListN.{length, getD}
 use borrow.Author.Tests.{lt-ltb, le-ltb, not-true, not-false}
 use Rattle.paging.specs.Numbers.{all}
-use Rattle.paging.specs.Frame.{isNew, mapFits, Noted}
+use Rattle.paging.specs.NotesCode.{Noted}
+use Rattle.paging.specs.Frame.{isNew, mapFits}
 use Rattle.paging.proofs.Numbers.{all-none, all-more, all-fails}
 use Rattle.paging.proofs.Notes.{noted-more}
 use Rattle.paging.proofs.map_fits_by.Statement.{statement}

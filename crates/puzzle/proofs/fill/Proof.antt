@@ -5,7 +5,7 @@ use native.Mathlib.Omega.{arith}
 use lib.ListN.{length, take, replicate}
 use borrow.Author.Needs.{needs}
 use Rattle.puzzle.specs.Buffers.{withPairs}
-use Rattle.puzzle.specs.Parts.{lists, Whole}
+use Rattle.puzzle.specs.PartsCode.{lists, Whole}
 use Rattle.puzzle.proofs.Calls.{not-refused, pairs-below, accepted-answer}
 use Rattle.puzzle.proofs.fill.Statement.{statement}
 use Rattle.puzzle.proofs.fill.Tie as tie

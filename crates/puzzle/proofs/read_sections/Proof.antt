@@ -9,7 +9,7 @@ use borrow.Author.Needs.{needs}
 use Rattle.cursor.specs.Text.{feeds}
 use Rattle.sections.specs.declared.Section.the-variants.{Map, Cr3s, Words, Events, Questions}
 use Rattle.sections.specs.Sections.{Got, _then_, section, puzzleOf}
-use Rattle.sections.specs.Parts.{Front}
+use Rattle.sections.specs.PartsCode.{Front}
 use Rattle.puzzle.proofs.Cases.{sections-by}
 use Rattle.puzzle.proofs.Chain.{fromWords, fromEvents, fromQuestions, fromEnd, after-start, after-map, after-cr3s, after-pairs, after-events, once, length-once, at-end}
 use Rattle.puzzle.proofs.read_sections.Statement.{statement}

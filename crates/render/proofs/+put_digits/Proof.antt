@@ -7,7 +7,7 @@ use lib.ListN.{length, length-set}
 use borrow.Fn.Kinds.{In}
 use borrow.Fn.PlainCycle.{Measures, is, falls, and}
 use Rattle.cursor.specs.Text.{digitsOf}
-use Rattle.render.specs.Written.{Out, outOf, written}
+use Rattle.render.specs.WrittenCode.{Out, outOf, written}
 use Rattle.render.proofs.Writes.{written-append, written-one, written-at}
 use Rattle.render.proofs.Digits.{digits-small, digits-more, length-more}
 use Rattle.render.proofs.put_digits.Reads as own

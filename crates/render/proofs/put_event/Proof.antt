@@ -7,7 +7,7 @@ use lib.ListN.{length, length-append}
 use borrow.Author.Needs.{needs}
 use Rattle.cursor.specs.Text.{digitsOf}
 use Rattle.render.specs.Render.{numbers, renderEvent}
-use Rattle.render.specs.Written.{Out, outOf}
+use Rattle.render.specs.WrittenCode.{Out, outOf}
 use Rattle.render.proofs.Writes.{written-at}
 use Rattle.render.proofs.Digits.{digits-small, length-word}
 use Rattle.render.proofs.put_event.Statement.{statement}

@@ -5,7 +5,7 @@ use Prim.Native.Nat.{ℕ, _+_, _-_, _*_, _≤_}
 use native.Mathlib.Omega.{arith}
 use lib.ListN.{length, drop, length-set}
 use Rattle.render.specs.Render.{numbers}
-use Rattle.render.specs.Written.{outOf, written}
+use Rattle.render.specs.WrittenCode.{outOf, written}
 use Rattle.render.proofs.Writes.{written-one}
 use Rattle.render.proofs.Lines.{written-first, number-more, number-end}
 use Rattle.render.proofs.put_line.Statement.{statement}

@@ -5,7 +5,7 @@ use native.Mathlib.Omega.{arith}
 use lib.ListN.{set, length-set}
 use borrow.Author.Needs.{needs}
 use Rattle.cursor.specs.Text.{digitsOf}
-use Rattle.render.specs.Written.{Out, outOf}
+use Rattle.render.specs.WrittenCode.{Out, outOf}
 use Rattle.render.proofs.Writes.{written-at}
 use Rattle.render.proofs.Digits.{length-word}
 use Rattle.render.proofs.Lines.{written-first}

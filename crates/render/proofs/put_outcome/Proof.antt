@@ -8,8 +8,8 @@ use borrow.Author.Needs.{needs}
 use borrow.Author.Tests.{eq-eqb, ne-eqb}
 use Rattle.paging.specs.declared.Host.{Host}
 use Rattle.render.specs.Render.{line}
-use Rattle.render.specs.Written.{outOf, written}
-use Rattle.render.specs.Lines.{pairLine}
+use Rattle.render.specs.WrittenCode.{outOf, written}
+use Rattle.render.specs.LinesCode.{pairLine}
 use Rattle.render.proofs.put_outcome.Statement.{statement}
 use Rattle.render.proofs.put_outcome.Tie as tie
 

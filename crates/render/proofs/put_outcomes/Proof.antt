@@ -3,8 +3,8 @@ use mathlib.Core.Path.{_≡_, refl, _∙_}
 use Prim.Native.Nat.{_+_, _-_, _*_, _/_, _≤_}
 use native.Mathlib.Omega.{arith}
 use lib.ListN.{length, drop}
-use Rattle.render.specs.Written.{outOf, written}
-use Rattle.render.specs.Lines.{pairLines}
+use Rattle.render.specs.WrittenCode.{outOf, written}
+use Rattle.render.specs.LinesCode.{pairLines}
 use Rattle.render.proofs.Lines.{pair-more, pair-end}
 use Rattle.render.proofs.put_outcomes.Statement.{statement}
 use Rattle.render.proofs.put_outcomes.Tie as tie

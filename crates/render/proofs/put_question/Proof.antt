@@ -6,8 +6,8 @@ use native.Mathlib.Omega.{arith}
 use lib.ListN.{length}
 use borrow.Author.Needs.{needs}
 use Rattle.render.specs.Render.{line}
-use Rattle.render.specs.Written.{outOf, written}
-use Rattle.render.specs.Lines.{pairLines}
+use Rattle.render.specs.WrittenCode.{outOf, written}
+use Rattle.render.specs.LinesCode.{pairLines}
 use Rattle.render.proofs.Writes.{written-append}
 use Rattle.render.proofs.put_question.Statement.{statement}
 use Rattle.render.proofs.put_question.Tie as tie

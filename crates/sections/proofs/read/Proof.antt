@@ -7,7 +7,7 @@ use borrow.Author.Needs.{needs}
 use borrow.Author.Tests.{not-true, not-false}
 use Rattle.cursor.proofs.DigitRuns.{next-stands}
 use Rattle.sections.specs.Sections.{Got, width, countRange}
-use Rattle.sections.specs.Parts.{PartIs}
+use Rattle.sections.specs.PartsCode.{PartIs}
 use Rattle.sections.proofs.Cases.{part-by}
 use Rattle.sections.proofs.Numbers.{due-bad, due-out, due-in, section-refused, section-counted, count-fits}
 use Rattle.sections.proofs.read.Statement.{statement}

@@ -7,7 +7,7 @@ use native.Mathlib.Omega.{arith}
 use borrow.Author.Needs.{needs}
 use borrow.Author.Tests.{not-true, not-false}
 use Rattle.sections.specs.Sections.{width, inRange, numbers, refused}
-use Rattle.sections.specs.Parts.{Front}
+use Rattle.sections.specs.PartsCode.{Front}
 use Rattle.sections.proofs.Cases.{part-by}
 use Rattle.sections.proofs.Numbers.{Turned, turn-start, turn-bad, turn-out, turn-more, turn-end}
 use Rattle.sections.proofs.read_numbers.Statement.{statement}

@@ -9,7 +9,7 @@ use borrow.Author.Needs.{needs}
 use Rattle.trainer.specs.declared.Written.{Written}
 use Rattle.trainer.specs.declared.Written.the-variants.{Bytes}
 use Rattle.trainer.specs.Call.{Lines, Call}
-use Rattle.trainer.specs.Parts.{LinesOf}
+use Rattle.trainer.specs.PartsCode.{LinesOf}
 use Rattle.terminal.proofs.write_lines.Statement.{statement}
 use Rattle.terminal.proofs.write_lines.Tie as tie
 

@@ -6,7 +6,7 @@ use Rattle.sections.specs.Sections.{Got, Puzzle}
 use Rattle.puzzle.specs.Buffers.{Buffers, buffers}
 use Rattle.render.specs.Render.{renderRefusal}
 use Rattle.trainer.specs.Call.{puzzleIn, Prints}
-use Rattle.trainer.specs.Parts.{LinesOf, Printable, AllPut}
+use Rattle.trainer.specs.PartsCode.{LinesOf, Printable, AllPut}
 use Rattle.trainer.proofs.Wholes.{zeros, says, told, took, call-by}
 use Rattle.trainer.proofs.print.Statement.{statement}
 use Rattle.trainer.proofs.print.Tie as tie

@@ -6,8 +6,8 @@ use native.Mathlib.Omega.{arith}
 use lib.ListN.{length}
 use lib.Seq.{length-take-le}
 use borrow.Author.Needs.{needs}
-use Rattle.render.specs.Written.{outOf, written}
-use Rattle.render.specs.Lines.{questionLines, AllMapped}
+use Rattle.render.specs.WrittenCode.{outOf, written}
+use Rattle.render.specs.LinesCode.{questionLines, AllMapped}
 use Rattle.trainer.proofs.Asks.{pairs-mapped, question-pairs}
 use Rattle.trainer.proofs.put_answer.Statement.{statement}
 use Rattle.trainer.proofs.put_answer.Tie as tie

@@ -5,9 +5,9 @@ use native.Mathlib.Omega.{arith}
 use lib.ListN.{length}
 use Rattle.rules.specs.declared.Question.{Question}
 use Rattle.puzzle.specs.Buffers.{buffers}
-use Rattle.render.specs.Written.{outOf, written}
+use Rattle.render.specs.WrittenCode.{outOf, written}
 use Rattle.trainer.specs.Call.{joined}
-use Rattle.trainer.specs.Parts.{Posed, Answered}
+use Rattle.trainer.specs.PartsCode.{Posed, Answered}
 use Rattle.trainer.proofs.Turns.{linesOf, answer-more, rendered}
 use Rattle.trainer.proofs.put_answers.Statement.{statement}
 use Rattle.trainer.proofs.put_answers.Tie as tie

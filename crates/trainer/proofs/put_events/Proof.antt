@@ -5,7 +5,7 @@ use native.Mathlib.Omega.{arith}
 use lib.ListN.{length}
 use borrow.Author.Needs.{needs}
 use Rattle.tables.specs.State.{machine64, shadowOf, State, stateOf}
-use Rattle.render.specs.Written.{outOf, written}
+use Rattle.render.specs.WrittenCode.{outOf, written}
 use Rattle.trainer.specs.Call.{joined}
 use Rattle.trainer.proofs.EventLines.{lineOf, Ran, ran-none, ran-more}
 use Rattle.trainer.proofs.put_events.Statement.{statement}

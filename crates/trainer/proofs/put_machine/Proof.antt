@@ -4,7 +4,7 @@ use mathlib.Core.List.{[]}
 use borrow.Author.Needs.{needs}
 use Rattle.tables.specs.State.{machine64, shadowOf, State, stateOf}
 use Rattle.trainer.specs.Run.{sizesOf}
-use Rattle.trainer.specs.Parts.{EventsPut}
+use Rattle.trainer.specs.PartsCode.{EventsPut}
 use Rattle.trainer.proofs.EventLines.{set-up}
 use Rattle.trainer.proofs.put_machine.Statement.{statement}
 use Rattle.trainer.proofs.put_machine.Tie as tie

@@ -6,7 +6,7 @@ use lib.Seq.{length-take-le}
 use borrow.Author.Needs.{needs}
 use Rattle.puzzle.specs.Buffers.{Buffers, buffers}
 use Rattle.trainer.specs.declared.Program.{Program}
-use Rattle.trainer.specs.Parts.{LinesOf, AllPut, cut}
+use Rattle.trainer.specs.PartsCode.{LinesOf, AllPut, cut}
 use Rattle.trainer.proofs.put_puzzle.Statement.{statement}
 use Rattle.trainer.proofs.put_puzzle.Tie as tie
 

@@ -3,7 +3,7 @@ use mathlib.Core.Path.{ap₂, _∙_, subst⁻¹}
 use Prim.Native.Nat.{ℕ, _+_, _<_}
 use borrow.Author.Needs.{needs}
 use Rattle.render.specs.Render.{renderEvent}
-use Rattle.render.specs.Written.{outOf, written}
+use Rattle.render.specs.WrittenCode.{outOf, written}
 use Rattle.trainer.proofs.EventLines.{kind-small}
 use Rattle.trainer.proofs.put_reply.Statement.{statement}
 use Rattle.trainer.proofs.put_reply.Tie as tie

@@ -8,10 +8,10 @@ use Rattle.paging.specs.Layout.{tables64, pageOf}
 use Rattle.paging.specs.Request.{requestOf}
 use Rattle.rules.specs.declared.Question.{Question}
 use Rattle.held.specs.Work.{Room}
-use Rattle.held.specs.Follow.{restarted}
+use Rattle.held.specs.FollowCode.{restarted}
 use Rattle.rules.specs.Numbers.{eventOf}
-use Rattle.listing.specs.Replay.{Replay, replayOf, Reach, replayed}
-use Rattle.listing.specs.Collect.{outOf, collected}
+use Rattle.listing.specs.ReplayCode.{Replay, replayOf, Reach, replayed}
+use Rattle.listing.specs.CollectCode.{outOf, collected}
 
 pub record Answerable (G : ℕ) (words work outcomes events : List ℕ) (q : Question) (start : ℕ) : Type 0 where
   pub room : Room G words work

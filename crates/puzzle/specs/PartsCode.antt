@@ -7,7 +7,7 @@ use lib.Dec.{eqb}
 use lib.ListN.{length, take, getD}
 use Rattle.cursor.specs.Text.{lineAt, pastBlanks}
 use Rattle.sections.specs.Sections.{Got, got, refused, Puzzle, puzzleOf}
-use Rattle.sections.specs.Parts.{Kept}
+use Rattle.sections.specs.PartsCode.{Kept}
 use Rattle.puzzle.specs.declared.ReadResult.{ReadResult}
 use Rattle.puzzle.specs.declared.ReadResult.the-variants.{Accepted, Refused}
 use Rattle.puzzle.specs.Buffers.{Buffers}

@@ -11,7 +11,7 @@ use Rattle.paging.specs.declared.Step.the-variants.{On, Absent, Beyond, Complet
 use Rattle.paging.specs.Numbers.{some, each}
 use Rattle.paging.specs.Request.{enough}
 use Rattle.listing.specs.declared.Faults.{Faults}
-use Rattle.held.specs.Follow.{isSet, walkOf, stepIn}
+use Rattle.held.specs.FollowCode.{isSet, walkOf, stepIn}
 use Rattle.paging.specs.Layout.{tables64}
 
 -- the outcomes written so far, and the buffer

@@ -11,7 +11,7 @@ use Rattle.paging.specs.Frame.{guest}
 use Rattle.paging.specs.Layout.{tables64, frameWords, pageOf}
 use Rattle.rules.specs.declared.Event.{Event}
 use Rattle.rules.specs.History.{isStore, isInvlpg, isCr3Write, isBy}
-use Rattle.held.specs.Follow.{rereadWord, restarted}
+use Rattle.held.specs.FollowCode.{rereadWord, restarted}
 use Rattle.rules.specs.Numbers.{eventOf}
 
 pub record Replay : Type 0 where

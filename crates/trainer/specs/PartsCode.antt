@@ -10,7 +10,7 @@ use Rattle.listing.specs.Call.{asked, lent, listRefusal, pairs}
 use Rattle.puzzle.specs.Buffers.{Buffers, buffers}
 use Rattle.rules.specs.Numbers.{eventsOf, questionOf}
 use Rattle.render.specs.Render.{renderQuestion}
-use Rattle.render.specs.Written.{outOf, written}
+use Rattle.render.specs.WrittenCode.{outOf, written}
 use Rattle.tables.specs.State.{Machine, machine64, shadowOf, State, stateOf}
 use Rattle.shadow.specs.After.{setupRefusal, started}
 use Rattle.trainer.specs.declared.Program.{Program}
