@@ -86,4 +86,4 @@ module _ (M : Machine) (map : List ℕ) (s : State) (e : Event) where
         go (no a) (no b) (no c) (no d) (no f) (yes q) = extend q (accepted-numbers M map s e ok .extends q) (taken ∙ sym (moved-extend M map s e q))
         go (no a) (no b) (no c) (no d) (no f) (no g) =
             let q = seventh (e .kind) (accepted-numbers M map s e ok .kind) a b c d f g in
-            drop q (accepted-numbers M map s e ok .loses q) (taken ∙ sym (moved-drop M map s e q))
+            drop q (accepted-numbers M map s e ok .drops q) (taken ∙ sym (moved-drop M map s e q))
