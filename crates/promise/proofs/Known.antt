@@ -65,8 +65,8 @@ module _ (n : KnownRun) where
         let (setup, words) = both setupFits wordsFit two in
         (setup, words, starts, events)
 
-    pub known-fits : D.SetupFits F
-    known-fits = record { setup = eqb-true _ 0 (passed .0); words = eqb-true _ _ (passed .1) }
+    pub known-setup : D.SetupFits F
+    known-setup = record { setup = eqb-true _ 0 (passed .0); words = eqb-true _ _ (passed .1) }
 
     pub known-fits : Fit (guestOf F) (runOf n .events)
     known-fits = record {
@@ -79,12 +79,12 @@ module _ (n : KnownRun) where
       unfolding stateAt quickAt
       quick-state zero h = refl
       quick-state (suc k) h =
-          ap (λ (x : Result). x .state) (events.taken (F .machine) (F .map) (before F (runOf n) k) (eventAt (n .events) k) (accepted F laid known-fits (runOf n) known-fits k (omega arith)))
+          ap (λ (x : Result). x .state) (events.taken (F .machine) (F .map) (before F (runOf n) k) (eventAt (n .events) k) (accepted F laid known-setup (runOf n) known-fits k (omega arith)))
           ∙ ap (λ (s : State). quickly n k (losing (F .machine) (λ p j. false) s) .state) (quick-state k (omega arith))
 
       quick-answer : (k : ℕ) → k < length (n .events) → answerAt F (runOf n) k ≡ quickAnswer n k
       quick-answer k h =
-          ap (λ (x : Result). x .answer) (events.taken (F .machine) (F .map) (before F (runOf n) k) (eventAt (n .events) k) (accepted F laid known-fits (runOf n) known-fits k h))
+          ap (λ (x : Result). x .answer) (events.taken (F .machine) (F .map) (before F (runOf n) k) (eventAt (n .events) k) (accepted F laid known-setup (runOf n) known-fits k h))
           ∙ ap (λ (s : State). quickly n k (losing (F .machine) (λ p j. false) s) .answer) (quick-state k (omega arith))
 
       -- A KNOWN RUN ANSWERS WHAT ITS TABLE SAYS
@@ -129,7 +129,7 @@ no-outcome code e = let n : _≡_ {A = ℕ} 0 1 = cc in omega arith
 
 pub settles-then : Settles (stored .machine) (runOf stored) 1
 unfolding stored
-settles-then = go (demand-three tables64 laid64 (stored .machine) refl (known-fits stored stored-fits) (runOf stored) (known-fits stored stored-fits) 0 (omega arith) tt)
+settles-then = go (demand-three tables64 laid64 (stored .machine) refl (known-setup stored stored-fits) (runOf stored) (known-fits stored stored-fits) 0 (omega arith) tt)
   where
     go : SettlesInTwo (stored .machine) (runOf stored) 0 → Settles (stored .machine) (runOf stored) 1
     go (inl s) = absurd (no-outcome (s .says) first-again)
@@ -137,7 +137,7 @@ settles-then = go (demand-three tables64 laid64 (stored .machine) refl (known-fi
 
 pub settles-at-once : Settles (stored .machine) (runOf stored) 3
 unfolding stored
-settles-at-once = go (demand-three tables64 laid64 (stored .machine) refl (known-fits stored stored-fits) (runOf stored) (known-fits stored stored-fits) 3 (omega arith) tt)
+settles-at-once = go (demand-three tables64 laid64 (stored .machine) refl (known-setup stored stored-fits) (runOf stored) (known-fits stored stored-fits) 3 (omega arith) tt)
   where
     go : SettlesInTwo (stored .machine) (runOf stored) 3 → Settles (stored .machine) (runOf stored) 3
     go (inl s) = s
