@@ -89,7 +89,7 @@ pub fn short_list(seed: u64, number: u64) -> Case {
     let mut style = rng.pick(&STYLES[..5]);
     style.guest_frames = rng.pick(&[(7, 16), (7, 16), (17, 256)]);
     style.processors = (1, 4);
-    style.events = rng.pick(&[(13, 20), (13, 20), (13, 20), (21, 32), (33, 48)]);
+    style.events = rng.pick(&[(13, 24), (13, 24), (13, 24), (25, 48), (49, 80)]);
     style.weights = rng.pick(&[
         [90, 2, 1, 4, 3],
         [75, 12, 3, 5, 5],
