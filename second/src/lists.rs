@@ -1,11 +1,15 @@
 //! Every permitted outcome of a question, found twice: `by_timings` tries all
 //! moments t4 ≤ t3 ≤ t2 ≤ t1 as the rule states them, `by_sets` carries the set
-//! of walks from moment to moment. `list` is the library's list call on top.
+//! of walks from moment to moment. `list` is the library's list call on top of
+//! the sets, `list_by` the same call on top of either.
 
 use crate::rules::*;
 use std::collections::BTreeSet;
 
 pub type Held = BTreeSet<Walk>;
+
+/// A way to find the walks of a page that are held at the end of a history.
+pub type Rule = fn(&History, u64) -> Held;
 
 /// A start and the events after it, as one processor lives them.
 pub struct History<'a> {
@@ -223,6 +227,16 @@ pub fn answers(
     events: &[Event],
     question: &Question,
 ) -> (Held, BTreeSet<Outcome>) {
+    answers_by(by_sets, words, cr3s, events, question)
+}
+
+fn answers_by(
+    rule: Rule,
+    words: &[u64],
+    cr3s: &[u64],
+    events: &[Event],
+    question: &Question,
+) -> (Held, BTreeSet<Outcome>) {
     let history = History {
         guest_frames: words.len() as u64 / WORDS_PER_FRAME,
         words,
@@ -230,7 +244,7 @@ pub fn answers(
         events,
         processor: question.processor,
     };
-    let held = by_sets(&history, page_of(question.address));
+    let held = rule(&history, page_of(question.address));
     let mut end_words = words.to_vec();
     do_stores(&mut end_words, events);
     let outcomes = outcomes(&held, &end_words, question);
@@ -264,6 +278,32 @@ pub fn list(
     work: &mut [u8],
     outcome_buffer: &mut [u64],
 ) -> Listed {
+    list_by(
+        by_sets,
+        sizes,
+        map,
+        words,
+        cr3s,
+        events,
+        question,
+        work,
+        outcome_buffer,
+    )
+}
+
+/// The list call with held walks found by this rule.
+#[allow(clippy::too_many_arguments)] // as above
+pub fn list_by(
+    rule: Rule,
+    sizes: ListSizes,
+    map: &[u64],
+    words: &mut [u64],
+    cr3s: &[u64],
+    events: &[u64],
+    question: Question,
+    work: &mut [u8],
+    outcome_buffer: &mut [u64],
+) -> Listed {
     let lengths = [
         map.len(),
         words.len(),
@@ -285,7 +325,7 @@ pub fn list(
     if let Some(refusal) = list_refusal(sizes, map, cr3s, &events, question) {
         return Listed { refusal, count: 0 };
     }
-    let (held, outcomes) = answers(words, cr3s, &events, &question);
+    let (held, outcomes) = answers_by(rule, words, cr3s, &events, &question);
     do_stores(words, &events);
     mark(&held, sizes.guest_frames, work);
     for (outcome, pair) in outcomes.iter().zip(outcome_buffer.chunks_mut(2)) {

@@ -263,6 +263,26 @@ impl Flat<'_> {
         self.sizes.processors * self.sizes.share
     }
 
+    /// Refusal 1: the sizes are in their ranges and every buffer has its length.
+    fn lengths_hold(&self, words: &[u64]) -> bool {
+        let sizes = self.sizes;
+        (1..=256).contains(&sizes.guest_frames)
+            && (1..=4).contains(&sizes.processors)
+            && (4..=16).contains(&sizes.share)
+            && self.map.len() as u64 == sizes.guest_frames
+            && words.len() as u64 == WORDS_PER_FRAME * sizes.guest_frames
+            && self.pool.len() as u64 == WORDS_PER_FRAME * self.tables()
+            && self.records.len() as u64 == 2 * self.tables()
+            && self.slots.len() as u64 == 24 * sizes.processors
+    }
+
+    /// Refusal 2: the pool ends below 2^40, and the map's frames are distinct, below 2^40 and outside the pool.
+    fn map_holds(&self) -> bool {
+        let end = self.sizes.base.saturating_add(self.tables());
+        let outside = |&frame: &u64| frame < self.sizes.base || frame >= end;
+        end <= FRAME_LIMIT && map_fits(self.map) && self.map.iter().all(outside)
+    }
+
     /// The table that a present entry above level 1 names.
     fn named(&self, entry: u64) -> u64 {
         Entry(entry).frame().wrapping_sub(self.sizes.base)
@@ -359,8 +379,11 @@ impl Flat<'_> {
                 value: 0,
             })
         };
-        if words.len() as u64 != 512 * self.sizes.guest_frames || !map_fits(self.map) {
+        if !self.lengths_hold(words) {
             return refused(1);
+        }
+        if !self.map_holds() {
+            return refused(2);
         }
         if !self.tables_lawful() || !self.slots_lawful() {
             return refused(3);

@@ -88,3 +88,81 @@ fn quickly_served_accesses_agree() {
     }
     assert!(served > 3000, "{served}");
 }
+
+/// A refused call: what is wrong, its sizes, its map and how many words it lends.
+type Wrong = (&'static str, Sizes, Vec<u64>, usize);
+
+#[test]
+fn quickly_refused_sizes_and_maps_agree() {
+    let sizes = Sizes {
+        guest_frames: 3,
+        processors: 1,
+        share: 4,
+        base: POOL_BASE,
+    };
+    let map = vec![100, 101, 102];
+    let mut shadow = flat::zeros(1, 4);
+    assert_eq!(flat::setup(&sizes, &map, &[0], &mut shadow).refusal, 0);
+    let last = FRAME_LIMIT - 1;
+    let wrong: Vec<Wrong> = vec![
+        ("a repeated frame", sizes, vec![100, 101, 100], 1536),
+        ("a frame of 2^40", sizes, vec![100, 101, last + 1], 1536),
+        ("the pool's first", sizes, vec![100, 101, POOL_BASE], 1536),
+        (
+            "the pool's last",
+            sizes,
+            vec![100, 101, POOL_BASE + 3],
+            1536,
+        ),
+        (
+            "a pool past 2^40",
+            Sizes {
+                base: last - 2,
+                ..sizes
+            },
+            map.clone(),
+            1536,
+        ),
+        (
+            "a pool past 2^64",
+            Sizes {
+                base: u64::MAX,
+                ..sizes
+            },
+            map.clone(),
+            1536,
+        ),
+        ("a word missing", sizes, map.clone(), 1535),
+        ("a map frame missing", sizes, vec![100, 101], 1536),
+        (
+            "a share of 3",
+            Sizes { share: 3, ..sizes },
+            map.clone(),
+            1536,
+        ),
+        (
+            "257 frames",
+            Sizes {
+                guest_frames: 257,
+                ..sizes
+            },
+            (0..257).collect(),
+            512 * 257,
+        ),
+    ];
+    let access = Event::new(0, ACCESS, 8, 0);
+    for (label, sizes, map, length) in wrong {
+        let mut words = vec![0; length];
+        let quickly = Flat {
+            sizes,
+            map: &map,
+            pool: &shadow.pool,
+            records: &shadow.records,
+            slots: &shadow.slots,
+        }
+        .served_access(&words, &access);
+        let reply = flat::event(&sizes, &map, &mut words, &mut shadow, &access);
+        assert!((1..=2).contains(&reply.refusal), "{label}: {reply:?}");
+        assert_eq!(quickly, Some(reply), "{label}");
+    }
+}

@@ -3,7 +3,7 @@
 use crate::case::{After, Call, Case};
 use flamecurl::numbers as proved;
 use second::flat::{self, Shadow, Sizes};
-use second::lists::{self, ListSizes};
+use second::lists::{self, ListSizes, Rule};
 use second::puzzle;
 use second::report;
 use second::rules::{Event, Question};
@@ -79,6 +79,11 @@ fn library_sizes(n: &[u64]) -> flamecurl::Sizes {
 
 /// What the second program does. "A refusal returns its number, zeros else, and changes nothing."
 pub fn put_to_second(case: &Case) -> After {
+    put_to_rule(lists::by_sets, case)
+}
+
+/// The same, with the held walks of a list call found by this rule.
+pub fn put_to_rule(rule: Rule, case: &Case) -> After {
     let mut after = After {
         refusal: 0,
         buffers: case.buffers.clone(),
@@ -94,7 +99,7 @@ pub fn put_to_second(case: &Case) -> After {
         return after;
     }
     let answer = match case.call {
-        Call::List => second_list(case, &mut after.buffers),
+        Call::List => second_list(rule, case, &mut after.buffers),
         Call::Setup => second_setup(case, &mut after.buffers),
         Call::Event => second_event(case, &mut after.buffers),
         Call::Read => second_read(case, &mut after.buffers),
@@ -108,7 +113,7 @@ pub fn put_to_second(case: &Case) -> After {
     after
 }
 
-fn second_list(case: &Case, buffers: &mut [Vec<u64>]) -> Vec<u64> {
+fn second_list(rule: Rule, case: &Case, buffers: &mut [Vec<u64>]) -> Vec<u64> {
     let [map, words, cr3s, events, work, outcomes, _] = buffers else {
         unreachable!("a list call has seven buffers");
     };
@@ -119,8 +124,8 @@ fn second_list(case: &Case, buffers: &mut [Vec<u64>]) -> Vec<u64> {
     };
     let question = Question::new(case.numbers[0], case.numbers[1], case.numbers[2]);
     let mut held = bytes(work);
-    let listed = lists::list(
-        sizes, map, words, cr3s, events, question, &mut held, outcomes,
+    let listed = lists::list_by(
+        rule, sizes, map, words, cr3s, events, question, &mut held, outcomes,
     );
     *work = numbers(&held);
     vec![listed.refusal, listed.count]

@@ -5,7 +5,7 @@ use crate::case::{Call, Case};
 use crate::damage;
 use second::flat::lay_out;
 use second::gen::{self, puzzle, Prng, Style, STYLES};
-use second::machine::{Below, Machine, Slot, Table};
+use second::machine::{Below, Link, Machine, Slot, Table};
 use second::puzzle::Puzzle;
 use second::rules::*;
 use std::collections::BTreeMap;
@@ -78,6 +78,30 @@ fn four(event: &Event) -> [u64; 4] {
 
 fn list(rng: &mut Prng) -> Case {
     let puzzle = drawn_puzzle(rng);
+    list_of(rng, &puzzle)
+}
+
+/// A list call on a history that the rule by moments can still be tried on, moment by moment: at most 6 frames and 12 events
+/// are what the second program's own tests try, so these are larger.
+pub fn short_list(seed: u64, number: u64) -> Case {
+    let mut rng = Prng::new(seed ^ number.wrapping_mul(0x9fb2_1c65_1e98_df25));
+    rng.draw();
+    let mut style = rng.pick(&STYLES[..5]);
+    style.guest_frames = rng.pick(&[(7, 16), (7, 16), (17, 256)]);
+    style.processors = (1, 4);
+    style.events = rng.pick(&[(13, 24), (13, 24), (13, 24), (25, 48), (49, 80)]);
+    style.weights = rng.pick(&[
+        [90, 2, 1, 4, 3],
+        [75, 12, 3, 5, 5],
+        [70, 8, 12, 5, 5],
+        [40, 20, 10, 15, 15],
+    ]);
+    let mut puzzle = puzzle(&mut rng, &style);
+    stretch_map(&mut rng, &mut puzzle.map);
+    list_of(&mut rng, &puzzle)
+}
+
+fn list_of(rng: &mut Prng, puzzle: &Puzzle) -> Case {
     let guest_frames = puzzle.map.len();
     let (more, farther) = (some_more(rng), some_more(rng));
     let question = rng.pick(&puzzle.questions);
@@ -191,12 +215,16 @@ fn any_event(rng: &mut Prng, puzzle: &Puzzle) -> Event {
     }
 }
 
-/// A lawful state that no run need reach: other rights and frames in the tables, tables under other numbers, slots of any
-/// content, mostly of this page. Partial slots then stand where their pages lead.
+/// A lawful state that no run need reach: trees of other shapes, other rights and frames in the tables, tables under other
+/// numbers, slots of any content, mostly of this page. Partial slots then stand where their pages lead.
 fn unreached(rng: &mut Prng, machine: &mut Machine, page: u64) {
     let guest_frames = machine.map.guest_frames();
     for processor in &mut machine.processors {
         let first = processor.root.number;
+        if rng.percent(50) {
+            prune(rng, &mut processor.root);
+            hang_tables(rng, &mut processor.root, machine.share, guest_frames, page);
+        }
         let numbers = shuffled(rng, first + 1, machine.share - 1);
         change_table(rng, &mut processor.root, guest_frames, first, &numbers);
         for slot in &mut processor.slots {
@@ -204,6 +232,65 @@ fn unreached(rng: &mut Prng, machine: &mut Machine, page: u64) {
                 *slot = any_slot(rng, guest_frames, page);
             }
             *slot = settled(*slot, &processor.root);
+        }
+    }
+}
+
+/// Some entries become absent, at any level, with all that hangs below them.
+fn prune(rng: &mut Prng, table: &mut Table) {
+    table.links.retain(|_, _| !rng.percent(15));
+    for link in table.links.values_mut() {
+        if let Below::Table(below) = &mut link.below {
+            prune(rng, below);
+        }
+    }
+}
+
+fn numbers_used(table: &Table, used: &mut Vec<u64>) {
+    used.push(table.number);
+    for link in table.links.values() {
+        if let Below::Table(below) = &link.below {
+            numbers_used(below, used);
+        }
+    }
+}
+
+/// Free tables hung below tables of any level: many without an entry, some with pages, most where this page leads.
+fn hang_tables(rng: &mut Prng, root: &mut Table, share: u64, guest_frames: u64, page: u64) {
+    let mut used = Vec::new();
+    numbers_used(root, &mut used);
+    let first = root.number;
+    for number in (first..first + share).filter(|number| !used.contains(number)) {
+        if rng.percent(60) {
+            hang(rng, root, 4, number, guest_frames, page);
+        }
+    }
+}
+
+/// Hangs a table below this one or one of its subtables; at level 1, where no table can hang, a page instead.
+fn hang(rng: &mut Prng, table: &mut Table, level: u32, number: u64, guest_frames: u64, page: u64) {
+    let at = match rng.below(4) {
+        0 => rng.pick(&[0, 1, 2, 255, 256, 511]),
+        _ => index(page, level),
+    };
+    let rights = rng.pick(&[7, 7, 7, 3, 5, 6, 0]);
+    if level == 1 {
+        let below = Below::Page(Guest(rng.below(guest_frames)));
+        table.links.insert(at, Link { rights, below });
+        return;
+    }
+    match table.links.get_mut(&at) {
+        Some(Link {
+            below: Below::Table(below),
+            ..
+        }) => hang(rng, below, level - 1, number, guest_frames, page),
+        _ => {
+            let mut hung = Table::new(number, Guest(rng.below(guest_frames)));
+            if level == 2 && rng.percent(60) {
+                hang(rng, &mut hung, 1, number, guest_frames, page);
+            }
+            let below = Below::Table(hung);
+            table.links.insert(at, Link { rights, below });
         }
     }
 }

@@ -114,8 +114,9 @@ fn show_shrunk(pair: &Pair, text: &[u8]) -> io::Result<()> {
     writeln!(out, "end of the difference")
 }
 
-/// What the program prints for this text. It may stop reading early, so a
-/// refused write is no fault.
+/// What the program prints for this text, and its exit status if that is not 0:
+/// refused or not, a text is answered with status 0. It may stop reading early,
+/// so a refused write is no fault.
 fn output_of(program: &str, text: &[u8]) -> io::Result<Vec<u8>> {
     let mut child = Command::new(program)
         .stdin(Stdio::piped())
@@ -128,7 +129,12 @@ fn output_of(program: &str, text: &[u8]) -> io::Result<Vec<u8>> {
                 let _ = stdin.write_all(text);
             }
         });
-        Ok(child.wait_with_output()?.stdout)
+        let mut output = child.wait_with_output()?;
+        if !output.status.success() {
+            let line = format!("(the program ended with {})\n", output.status);
+            output.stdout.extend(line.bytes());
+        }
+        Ok(output.stdout)
     })
 }
 
