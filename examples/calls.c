@@ -12,7 +12,8 @@ enum { G = 6, P = 1, S = 4, BASE = 1 << 20 };
 
 static const uint64_t map[G] = {100, 101, 102, 103, 104, 105};
 static const uint64_t cr3s[P] = {0};
-static uint64_t words[512 * G], pool[512 * P * S], records[2 * P * S], slots[24 * P];
+static uint64_t words[FLAMECURL_WORDS(G)], pool[FLAMECURL_POOL(P, S)], records[FLAMECURL_RECORDS(P, S)];
+static uint64_t slots[FLAMECURL_SLOTS(P)];
 
 static void lay_tables(void)
 {
@@ -27,8 +28,8 @@ static void lay_tables(void)
 static void list(void)
 {
     static const uint64_t events[] = {0, 1, 1536, 20487};
-    uint8_t work[40 * G];
-    uint64_t outcomes[2 * (G + 3)], answer[2];
+    uint8_t work[FLAMECURL_WORK(G)];
+    uint64_t outcomes[FLAMECURL_OUTCOMES(G)], answer[FLAMECURL_LIST_ANSWER];
 
     lay_tables();
     uint64_t refusal = flamecurl_list(COUNT(map), COUNT(words), COUNT(cr3s), COUNT(events), COUNT(work), COUNT(outcomes),
@@ -44,7 +45,7 @@ static void list(void)
 
 static void put(uint64_t kind, uint64_t a, uint64_t b)
 {
-    uint64_t answer[3];
+    uint64_t answer[FLAMECURL_EVENT_ANSWER];
 
     flamecurl_event(COUNT(map), COUNT(words), COUNT(pool), COUNT(records), COUNT(slots), COUNT(answer), G, P, S, BASE, 0, kind,
                     a, b);
@@ -71,9 +72,10 @@ static void machine(void)
 
 static void text(const char *puzzle)
 {
-    static uint64_t frames[16], roots[4], start[8192], events[1024], questions[48];
-    static uint8_t output[16384];
-    uint64_t counts[7], answer[2];
+    static uint64_t frames[FLAMECURL_TEXT_MAP], roots[FLAMECURL_TEXT_CR3S], start[FLAMECURL_TEXT_WORDS];
+    static uint64_t events[FLAMECURL_TEXT_EVENTS], questions[FLAMECURL_TEXT_QUESTIONS];
+    static uint8_t output[FLAMECURL_OUTPUT];
+    uint64_t counts[FLAMECURL_READ_ANSWER], answer[FLAMECURL_PRINT_ANSWER];
     const uint8_t *bytes = (const uint8_t *)puzzle;
 
     flamecurl_read(bytes, strlen(puzzle), COUNT(frames), COUNT(roots), COUNT(start), COUNT(events), COUNT(questions),
@@ -82,9 +84,11 @@ static void text(const char *puzzle)
            ", events %" PRIu64 ", questions %" PRIu64 "\n",
            counts[0], counts[1], counts[2], counts[3], counts[4], counts[5], counts[6]);
     flamecurl_answers(bytes, strlen(puzzle), COUNT(output), COUNT(answer));
-    printf("answers: refusal %" PRIu64 ", bytes %" PRIu64 "\n%.*s", answer[0], answer[1], (int)answer[1], output);
+    printf("answers: refusal %" PRIu64 ", bytes %" PRIu64 ", text's number %" PRIu64 ", line %" PRIu64 "\n%.*s", answer[0],
+           answer[1], answer[2], answer[3], (int)answer[1], output);
     flamecurl_run(bytes, strlen(puzzle), COUNT(output), COUNT(answer));
-    printf("run: refusal %" PRIu64 ", bytes %" PRIu64 "\n%.*s", answer[0], answer[1], (int)answer[1], output);
+    printf("run: refusal %" PRIu64 ", bytes %" PRIu64 ", text's number %" PRIu64 ", line %" PRIu64 "\n%.*s", answer[0],
+           answer[1], answer[2], answer[3], (int)answer[1], output);
 }
 
 int main(void)

@@ -32,6 +32,33 @@
 
 #include <stdint.h>
 
+#define FLAMECURL_VERSION "0.9.0"
+
+/* Lengths of buffers, in elements, by the numbers of guest frames G, processors P and shadow tables to a processor S. */
+#define FLAMECURL_WORDS(G) (512 * (G))
+#define FLAMECURL_WORK(G) (40 * (G))
+#define FLAMECURL_OUTCOMES(G) (2 * ((G) + 3))
+#define FLAMECURL_POOL(P, S) (512 * (P) * (S))
+#define FLAMECURL_RECORDS(P, S) (2 * (P) * (S))
+#define FLAMECURL_SLOTS(P) (24 * (P))
+
+/* Of flamecurl_read: the buffers, and the most bytes of a text. */
+#define FLAMECURL_TEXT_BYTES 65536
+#define FLAMECURL_TEXT_MAP 16
+#define FLAMECURL_TEXT_CR3S 4
+#define FLAMECURL_TEXT_WORDS 8192
+#define FLAMECURL_TEXT_EVENTS 1024
+#define FLAMECURL_TEXT_QUESTIONS 48
+
+/* Of flamecurl_answers and flamecurl_run: the output, in bytes. */
+#define FLAMECURL_OUTPUT 16384
+
+/* The answers. */
+#define FLAMECURL_LIST_ANSWER 2
+#define FLAMECURL_EVENT_ANSWER 3
+#define FLAMECURL_READ_ANSWER 7
+#define FLAMECURL_PRINT_ANSWER 4
+
 #ifdef __cplusplus
 extern "C" {
 #endif
@@ -103,8 +130,8 @@ uint64_t flamecurl_read(const uint8_t *text, uint64_t text_count,
                         uint64_t *answer, uint64_t answer_count);
 
 /* What the program `answers` prints for a text, into exactly 16,384 bytes; later bytes stay. A refused text is answered
-   with the line `R number line`, and then the call itself is not refused.
-   answer [2]: refusal, bytes written. */
+   with the line `R number line`; the call itself is then not refused, and the answer tells the text's number and line.
+   answer [4]: refusal, bytes written, the text's refusal number (0 if it is accepted), its line. */
 uint64_t flamecurl_answers(const uint8_t *text, uint64_t text_count,
                            uint8_t *output, uint64_t output_count,
                            uint64_t *answer, uint64_t answer_count);

@@ -1,5 +1,16 @@
 //! Flamecurl's proved library for Rust: slices in, enums out. Each function is one call of include/flamecurl.h, where the
 //! lengths of the buffers and the meaning of their numbers are told; nothing is computed here.
+//!
+//! ```
+//! let text = b"6 100 101 102 103 104 105  1 0  4 0 4103 512 8199 1024 12295 1536 16391  1 0 1 1536 20487  1 0 8 0";
+//! let mut output = [0; flamecurl::TEXT_OUTPUT];
+//! let n = flamecurl::answers(text, &mut output)?;
+//! assert_eq!(&output[..n], b"Q 0 8 0 2\nA 4 425992\nA 5 430088\n");
+//! # Ok::<(), flamecurl::PrintRefusal>(())
+//! ```
+
+use std::error::Error;
+use std::fmt;
 
 pub mod numbers;
 
@@ -28,6 +39,28 @@ pub enum Refusal {
     /// too few tables in a share; proved never to come
     Tables = 12,
 }
+
+impl fmt::Display for Refusal {
+    fn fmt(&self, f: &mut fmt::Formatter) -> fmt::Result {
+        let why = match self {
+            Refusal::Size => "a size is out of range",
+            Refusal::Map => "a host frame repeats, is too large or lies in the pool",
+            Refusal::State => "the shadow state breaks a state rule",
+            Refusal::Processor => "no such processor",
+            Refusal::Address => "address out of range",
+            Refusal::Request => "no such request",
+            Refusal::Cr3 => "CR3 names no guest frame",
+            Refusal::Word => "no such word",
+            Refusal::Slot => "no such slot",
+            Refusal::Text => "not a number, or one missing or left over",
+            Refusal::Range => "number out of range",
+            Refusal::Tables => "too few tables",
+        };
+        write!(f, "{why} ({})", self.number())
+    }
+}
+
+impl Error for Refusal {}
 
 impl Refusal {
     pub const ALL: [Refusal; 12] = [
@@ -89,6 +122,22 @@ pub fn outcomes(buffer: &[u64], count: usize) -> impl Iterator<Item = Outcome> +
 }
 
 /// Every permitted outcome of a question: how many pairs stand in `outcomes`. The words then hold all stores.
+///
+/// ```
+/// use flamecurl::{list, outcomes, Outcome, Question};
+/// let mut words = vec![0; 512 * 6];
+/// for (word, value) in [(0, 4103), (512, 8199), (1024, 12295), (1536, 16391)] {
+///     words[word] = value;
+/// }
+/// let map = [100, 101, 102, 103, 104, 105];
+/// let store = [0, 1, 1536, 20487];
+/// let (mut work, mut pairs) = ([0; 40 * 6], [0; 2 * (6 + 3)]);
+/// let question = Question { processor: 0, address: 8, request: 0 };
+/// let count = list(&map, &mut words, &[0], &store, &mut work, &mut pairs, question)?;
+/// let found: Vec<Outcome> = outcomes(&pairs, count).collect();
+/// assert_eq!(found, [Outcome::Frame(4), Outcome::Frame(5)]);
+/// # Ok::<(), flamecurl::Refusal>(())
+/// ```
 pub fn list(
     map: &[u64],
     words: &mut [u64],
@@ -188,6 +237,20 @@ pub fn setup(
 }
 
 /// One event of the machine.
+///
+/// ```
+/// use flamecurl::{event, setup, Answer, Refusal, Sizes, Step};
+/// let map = [100, 101, 102, 103];
+/// let sizes = Sizes { frames: 4, processors: 1, share: 4, base: 1 << 20 };
+/// let mut words = vec![0; 512 * 4];
+/// let (mut pool, mut records, mut slots) = (vec![0; 512 * 4], [0; 2 * 4], [0; 24]);
+/// setup(&map, &[0], &mut pool, &mut records, &mut slots, sizes)?;
+/// let mut put = |step: Step| event(&map, &mut words, &mut pool, &mut records, &mut slots, sizes, step.of(0));
+/// assert_eq!(put(Step::Access { address: 8, request: 0 }), Ok(Answer::Fault(0)));
+/// assert_eq!(put(Step::Drop { slot: 8 }), Err(Refusal::Slot));
+/// assert_eq!(Refusal::Slot.to_string(), "no such slot (9)");
+/// # Ok::<(), Refusal>(())
+/// ```
 pub fn event(
     map: &[u64],
     words: &mut [u64],
@@ -227,7 +290,24 @@ pub struct TextRefusal {
     pub line: u64,
 }
 
+impl fmt::Display for TextRefusal {
+    fn fmt(&self, f: &mut fmt::Formatter) -> fmt::Result {
+        write!(f, "line {}: {}", self.line, self.refusal)
+    }
+}
+
+impl Error for TextRefusal {}
+
 /// A puzzle text into buffers of 16, 4, 8,192, 1,024 and 48 numbers.
+///
+/// ```
+/// let (mut map, mut cr3s, mut words) = ([0; 16], [0; 4], vec![0; 8192]);
+/// let (mut events, mut questions) = (vec![0; 1024], [0; 48]);
+/// let mut read = |text| flamecurl::read(text, &mut map, &mut cr3s, &mut words, &mut events, &mut questions);
+/// assert_eq!(read(b"1 100  1 0  0  0  1 0 8 0")?.frames, 1);
+/// assert_eq!(read(b"17").unwrap_err().to_string(), "line 1: number out of range (11)");
+/// # Ok::<(), flamecurl::TextRefusal>(())
+/// ```
 pub fn read(
     text: &[u8],
     map: &mut [u64],
@@ -250,21 +330,58 @@ pub fn read(
     })
 }
 
+/// Why nothing was answered: the text, or the output buffer.
+#[derive(Clone, Copy, PartialEq, Eq, Debug)]
+pub enum PrintRefusal {
+    /// the text; the line `R number line` stands in the output, in this many bytes
+    Text(TextRefusal, usize),
+    /// the call; the output is as it was
+    Call(Refusal),
+}
+
+impl fmt::Display for PrintRefusal {
+    fn fmt(&self, f: &mut fmt::Formatter) -> fmt::Result {
+        match self {
+            PrintRefusal::Text(refusal, _) => refusal.fmt(f),
+            PrintRefusal::Call(refusal) => refusal.fmt(f),
+        }
+    }
+}
+
+impl Error for PrintRefusal {}
+
 /// The number of bytes that a text's call wrote.
-fn written(answer: [u64; 2]) -> Result<usize, Refusal> {
-    judged(answer[0]).map(|()| answer[1] as usize)
+fn written(answer: [u64; 4]) -> Result<usize, PrintRefusal> {
+    let [refusal, bytes, number, line] = answer;
+    judged(refusal).map_err(PrintRefusal::Call)?;
+    let bytes = bytes as usize;
+    judged(number)
+        .map(|()| bytes)
+        .map_err(|refusal| PrintRefusal::Text(TextRefusal { refusal, line }, bytes))
 }
 
 /// What the program `answers` prints for a text, into `TEXT_OUTPUT` bytes: how many were written.
-pub fn answers(text: &[u8], output: &mut [u8]) -> Result<usize, Refusal> {
-    let mut answer = [0; 2];
+pub fn answers(text: &[u8], output: &mut [u8]) -> Result<usize, PrintRefusal> {
+    let mut answer = [0; 4];
     numbers::answers(text, output, &mut answer);
     written(answer)
 }
 
 /// What the program `run` prints for a text, into `TEXT_OUTPUT` bytes: how many were written.
-pub fn run(text: &[u8], output: &mut [u8]) -> Result<usize, Refusal> {
-    let mut answer = [0; 2];
+///
+/// ```
+/// use flamecurl::PrintRefusal;
+/// let mut output = [0; flamecurl::TEXT_OUTPUT];
+/// let n = flamecurl::run(b"1 100  1 0  0  1 0 4 8 0  1 0 8 0", &mut output)?;
+/// assert_eq!(&output[..n], b"E 1 2 0\n");
+/// match flamecurl::run(b"17", &mut output) {
+///     Err(PrintRefusal::Text(refused, n)) => assert_eq!((refused.line, &output[..n]), (1, &b"R 11 1\n"[..])),
+///     other => panic!("{other:?}"),
+/// }
+/// # Ok::<(), PrintRefusal>(())
+/// ```
+pub fn run(text: &[u8], output: &mut [u8]) -> Result<usize, PrintRefusal> {
+    let mut answer = [0; 4];
     numbers::run(text, output, &mut answer);
     written(answer)
 }

@@ -182,12 +182,23 @@ fn a_text() {
     assert_eq!(reads(b"1 0\n1 1\n"), refused(Refusal::Range, 2));
     assert_eq!(reads(&[b' '; 65537]), refused(Refusal::Size, 0));
     let mut output = [7; TEXT_OUTPUT];
+    let too_short = Err(PrintRefusal::Call(Refusal::Size));
     let n = answers(TEXT, &mut output).unwrap();
     assert_eq!(&output[..n], b"Q 0 8 0 2\nA 4 425992\nA 5 430088\n");
-    assert_eq!(answers(TEXT, &mut [0; 100]), Err(Refusal::Size));
+    assert_eq!(answers(TEXT, &mut [0; 100]), too_short);
     let n = run(TEXT, &mut output).unwrap();
     assert_eq!(&output[..n], b"E 1 0 0\n");
-    assert_eq!(run(TEXT, &mut [0; 16385]), Err(Refusal::Size));
+    assert_eq!(run(TEXT, &mut [0; 16385]), too_short);
+    for program in [answers, run] {
+        let refused = program(b"1 0\n1 1\n", &mut output).unwrap_err();
+        let text = TextRefusal {
+            refusal: Refusal::Range,
+            line: 2,
+        };
+        assert_eq!(refused, PrintRefusal::Text(text, 7));
+        assert_eq!(&output[..7], b"R 11 2\n");
+        assert_eq!(refused.to_string(), "line 2: number out of range (11)");
+    }
 }
 
 #[test]

@@ -18,7 +18,7 @@ use Rattle.puzzle.specs.declared.ReadResult.the-variants.{Accepted, Refused}
 use Rattle.puzzle.specs.Buffers.{Buffers, readCall}
 use Rattle.puzzle.specs.Buffers as puzzle
 use Rattle.trainer.specs.declared.Written.{Written}
-use Rattle.trainer.specs.declared.Written.the-variants.{Bytes, Refused as Unwritten}
+use Rattle.trainer.specs.declared.Written.the-variants.{Bytes, RefusedText, Refused as Unwritten}
 use Rattle.trainer.specs.Call.{Lines, Call}
 
 -- ---- sizes, events and questions go in as plain numbers
@@ -47,10 +47,11 @@ abbrev pub readNumbers : ReadResult → List ℕ
 readNumbers (Accepted g p w e q) = 0 ∷ 0 ∷ g ∷ p ∷ w ∷ e ∷ q ∷ []
 readNumbers (Refused n line) = n ∷ line ∷ 0 ∷ 0 ∷ 0 ∷ 0 ∷ 0 ∷ []
 
--- refusal, bytes written
+-- refusal, bytes written, then a refused text's number and line
 abbrev pub writtenNumbers : Written → List ℕ
-writtenNumbers (Bytes n) = 0 ∷ n ∷ []
-writtenNumbers (Unwritten n) = n ∷ 0 ∷ []
+writtenNumbers (Bytes n) = 0 ∷ n ∷ 0 ∷ 0 ∷ []
+writtenNumbers (RefusedText number line n) = 0 ∷ n ∷ number ∷ line ∷ []
+writtenNumbers (Unwritten n) = n ∷ 0 ∷ 0 ∷ 0 ∷ []
 
 -- ---- what every exported call promises
 
@@ -81,7 +82,7 @@ ReadExport text before after =
 
 -- `answers` and `run`, by what they print
 abbrev pub PrintExport : Lines → List ℕ → List ℕ → List ℕ → List ℕ → ℕ → List ℕ → Type 0
-PrintExport Of text before after = Exported 2 writtenNumbers (λ (r : Written). Call Of text before r after) (after ≡ before)
+PrintExport Of text before after = Exported 4 writtenNumbers (λ (r : Written). Call Of text before r after) (after ≡ before)
 
 -- setup has no kind and no value to tell, so it has no answer buffer
 pub record SetupExport (z : Sizes) (map cr3s : List ℕ) (before : State) (number : ℕ) (after : State) : Type 0 where

@@ -63,16 +63,20 @@ fn put_read(answer: &mut [u64], r: ReadResult) -> u64
 }
 
 fn put_written(answer: &mut [u64], r: Written) -> u64
-    requires { ⌜ length (now answer) ≡ 2 ⌝ }
+    requires { ⌜ length (now answer) ≡ 4 ⌝ }
     ensures { λ n. ⌜ (now (answer .exit) ≡ writtenNumbers r) × (n ≡ getD (writtenNumbers r) 0 0) ⌝ }
 {
     match r {
         Written::Bytes(bytes) => {
-            trainer::copy(answer, &[0, bytes]);
+            trainer::copy(answer, &[0, bytes, 0, 0]);
+            0
+        }
+        Written::RefusedText(number, line, bytes) => {
+            trainer::copy(answer, &[0, bytes, number, line]);
             0
         }
         Written::Refused(number) => {
-            trainer::copy(answer, &[number, 0]);
+            trainer::copy(answer, &[number, 0, 0, 0]);
             number
         }
     }
@@ -204,14 +208,14 @@ pub extern "C" fn flamecurl_read(
 fn print(text: &[u8], output: &mut [u8], answer: &mut [u64], program: Program) -> u64
     ensures { λ n. ⌜ PrintExport (LinesOf program) (now (text .entry)) (now (output .entry)) (now (output .exit)) (now (answer .entry)) n (now (answer .exit)) ⌝ }
 {
-    if answer.len() != 2 {
+    if answer.len() != 4 {
         return 1;
     }
     let r = trainer::print(text, output, program);
     put_written(answer, r)
 }
 
-// What the program `answers` prints for a text. The answer: refusal, bytes written.
+// What the program `answers` prints for a text. The answer: refusal, bytes written, a refused text's number and line.
 #[no_mangle]
 pub extern "C" fn flamecurl_answers(text: &[u8], output: &mut [u8], answer: &mut [u64]) -> u64
     ensures { λ n. ⌜ PrintExport AnswersOf (now (text .entry)) (now (output .entry)) (now (output .exit)) (now (answer .entry)) n (now (answer .exit)) ⌝ }
@@ -219,7 +223,7 @@ pub extern "C" fn flamecurl_answers(text: &[u8], output: &mut [u8], answer: &mut
     print(text, output, answer, Program::Answers)
 }
 
-// What the program `run` prints for a text. The answer: refusal, bytes written.
+// What the program `run` prints for a text. The answer: as of `answers`.
 #[no_mangle]
 pub extern "C" fn flamecurl_run(text: &[u8], output: &mut [u8], answer: &mut [u64]) -> u64
     ensures { λ n. ⌜ PrintExport RunOf (now (text .entry)) (now (output .entry)) (now (output .exit)) (now (answer .entry)) n (now (answer .exit)) ⌝ }

@@ -1,7 +1,7 @@
 -- What is proved of `answers` and `run`. Their promises are `AnswersCall` and `RunCall` in specs/; the functions in src/ are proved to keep them.
-use mathlib.Core.Path.{_≡_, sym, ap, _∙_}
+use mathlib.Core.Path.{_≡_, sym, ap, _∙_, refl}
 use mathlib.Core.List.{List, [], _++_}
-use Prim.Native.Nat.{ℕ, _/_, _<_}
+use Prim.Native.Nat.{ℕ, _/_, _<_, _≤_}
 use native.Mathlib.Omega.{arith}
 use native.Mathlib.Decide.{ℕ-discrete}
 use lib.Dec.{leb}
@@ -16,17 +16,16 @@ use Rattle.sections.specs.Sections.{Got, got, refused, Puzzle, puzzleOf}
 use Rattle.puzzle.specs.Buffers.{Buffers, wordsOf}
 use Rattle.puzzle.proofs.Accepted.{accepted}
 use Rattle.puzzle.proofs.Fits.{event-fits}
-use Rattle.puzzle.proofs.Theorems as reads
 use Rattle.render.specs.Render.{renderQuestion}
 use Rattle.trainer.specs.declared.Written.{Written}
-use Rattle.trainer.specs.declared.Written.the-variants.{Bytes}
-use Rattle.trainer.specs.Call.{posed, puzzleIn, Lines, Prints, Call}
+use Rattle.trainer.specs.Call.{posed, puzzleIn, Lines, Prints, Call, toldOf, bytesOf}
 use Rattle.trainer.specs.Answers.{AnswersOf, AnswersCall}
 use Rattle.trainer.specs.Run.{sizesOf, RunOf, RunCall}
 use Rattle.trainer.specs.PartsCode.{Startable}
 use Rattle.trainer.proofs.Turns.{joined-same, one-right}
 use Rattle.trainer.proofs.Puzzles.{ready}
 use Rattle.trainer.proofs.Wholes.{in-text}
+use Rattle.puzzle.proofs.Theorems as reads
 
 -- of one puzzle one list of bytes is printed: then a call has one result
 module _ (Of : Lines) (one : (b : Buffers) (x y : List ℕ) → Of b x → Of b y → x ≡ y) where
@@ -43,7 +42,7 @@ module _ (Of : Lines) (one : (b : Buffers) (x y : List ℕ) → Of b x → Of b 
           let p = a .printed h in
           let q = b .printed h in
           let same = prints-same (puzzleIn text) (p .bytes) (q .bytes) (p .prints) (q .prints) in
-          (p .counted ∙ ap (λ (l : List ℕ). Bytes (length l)) same ∙ sym (q .counted), p .holds ∙ ap (λ (l : List ℕ). l ++ drop (length l) before) same ∙ sym (q .holds))
+          (p .counted ∙ ap (λ (l : List ℕ). toldOf (puzzleIn text) (length l)) same ∙ sym (q .counted), p .holds ∙ ap (λ (l : List ℕ). l ++ drop (length l) before) same ∙ sym (q .holds))
 
 answers-same : (b : Buffers) (x y : List ℕ) → AnswersOf b x → AnswersOf b y → x ≡ y
 answers-same b x y p q =
@@ -58,6 +57,16 @@ one-answers = call-same AnswersOf answers-same
 
 pub one-run : (text before : List ℕ) (r s : Written) (x y : List ℕ) → RunCall text before r x → RunCall text before s y → (r ≡ s) × (x ≡ y)
 one-run = call-same RunOf (λ b x y p q. p ∙ sym q)
+
+-- WHAT IS TO BE PRINTED LIES IN THE BUFFER
+told-bytes : (m : Got Puzzle) (n : ℕ) → bytesOf (toldOf m n) ≡ n
+told-bytes (got z at) n = refl
+told-bytes (refused number line) n = refl
+
+pub bytes-inside : (Of : Lines) (text before : List ℕ) (r : Written) (after : List ℕ) → length before ≡ 16384 → Call Of text before r after → bytesOf r ≤ 16384
+bytes-inside Of text before r after long c =
+    let p = c .printed long in
+    omega (arith, p .fits, ap bytesOf (p .counted) ∙ told-bytes (puzzleIn text) (length (p .bytes)))
 
 -- OF AN ACCEPTED TEXT `run` FINDS NOTHING OUT OF RANGE
 module _ (text : List ℕ) {z : Puzzle} {at : ℕ} (e : puzzleIn text ≡ got z at) where

@@ -14,13 +14,12 @@ use Rattle.puzzle.specs.declared.ReadResult.the-variants.{Accepted, Refused}
 use Rattle.puzzle.specs.Buffers.{Buffers, buffers, After, after, laid, wordsOf, answer, readCall}
 use Rattle.puzzle.specs.PartsCode.{Lengths}
 use Rattle.puzzle.proofs.Accepted.{accepted}
-use Rattle.puzzle.proofs.Theorems as reads
 use Rattle.render.specs.WrittenCode.{Out, outOf, written}
 use Rattle.render.proofs.Writes.{written-at, written-front}
-use Rattle.trainer.specs.declared.Written.the-variants.{Bytes}
-use Rattle.trainer.specs.Call.{posed, puzzleIn, Lines, Prints, Call}
+use Rattle.trainer.specs.Call.{posed, puzzleIn, Lines, Prints, Call, toldOf}
 use Rattle.trainer.specs.PartsCode.{Printable, Counts, cut}
 use Rattle.trainer.proofs.Puzzles.{Sizes, sizes, ready}
+use Rattle.puzzle.proofs.Theorems as reads
 
 abbrev pub zeros : Buffers
 zeros = buffers (replicate 16 0) (replicate 4 0) (replicate 8192 0) (replicate 1024 0) (replicate 48 0)
@@ -100,13 +99,19 @@ took text new eq = took-by text zeros new (puzzleIn text) refl eq
 
 -- ---- what was written
 
-pub call-by : (Of : Lines) (text before : List ℕ) (r : ℕ) (last bytes : List ℕ) → Prints Of (puzzleIn text) bytes → outOf r last ≡ written bytes (outOf 0 before) → r ≤ 16384
-    → length before ≡ 16384 → Call Of text before (Bytes r) last
-call-by Of text before r last bytes p e few long =
+pub call-by : (Of : Lines) (text before : List ℕ) (r : ℕ) (last bytes : List ℕ) (m : Got Puzzle) → puzzleIn text ≡ m → Prints Of m bytes
+    → outOf r last ≡ written bytes (outOf 0 before) → r ≤ 16384 → length before ≡ 16384 → Call Of text before (toldOf m r) last
+call-by Of text before r last bytes m is p e few long =
     let n : r ≡ length bytes = omega (arith, ap (λ (o : Out). o .at) e ∙ written-at bytes (outOf 0 before)) in
     let h : length bytes ≤ length before = omega arith in
     let w = e ∙ written-front bytes before h in
     record {
       refused = λ d. absurd (d long);
-      printed = λ d. record { bytes = bytes; prints = p; fits = h; counted = ap Bytes n; holds = ap (λ (o : Out). o .buffer) w };
+      printed = λ d. record {
+        bytes = bytes;
+        prints = subst⁻¹ (λ (x : Got Puzzle). Prints Of x bytes) is p;
+        fits = h;
+        counted = ap (toldOf m) n ∙ ap (λ (x : Got Puzzle). toldOf x (length bytes)) (sym is);
+        holds = ap (λ (o : Out). o .buffer) w;
+      };
     }

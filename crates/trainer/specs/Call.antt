@@ -9,7 +9,7 @@ use Rattle.sections.specs.Sections.{Got, got, refused, Puzzle, puzzleOf}
 use Rattle.puzzle.specs.Buffers.{Buffers, buffers, wordsOf}
 use Rattle.render.specs.Render.{renderRefusal}
 use Rattle.trainer.specs.declared.Written.{Written}
-use Rattle.trainer.specs.declared.Written.the-variants.{Bytes, Refused}
+use Rattle.trainer.specs.declared.Written.the-variants.{Bytes, RefusedText, Refused}
 
 -- f 0, f 1, .., f (n − 1), one behind the other
 unfoldable pub joined : ℕ → (ℕ → List ℕ) → List ℕ
@@ -24,6 +24,16 @@ posed z = buffers (z .map) (z .cr3s) (wordsOf z) (z .events) (z .questions)
 abbrev pub puzzleIn : List ℕ → Got Puzzle
 puzzleIn text = cond (leb (length text) 65536) (puzzleOf text) (refused 1 0)
 
+-- the answer where this was read and so many bytes were written
+abbrev pub toldOf : Got Puzzle → ℕ → Written
+toldOf (got z at) n = Bytes n
+toldOf (refused number line) n = RefusedText number line n
+
+abbrev pub bytesOf : Written → ℕ
+bytesOf (Bytes n) = n
+bytesOf (RefusedText number line n) = n
+bytesOf (Refused number) = 0
+
 -- what a program prints of the lists of a puzzle
 abbrev pub Lines : Type 1
 Lines = Buffers → List ℕ → Type 0
@@ -34,12 +44,12 @@ module _ (Of : Lines) where
   Prints (got z at) bytes = Of (posed z) bytes
   Prints (refused number at) bytes = bytes ≡ renderRefusal number at
 
-  -- the output stands in front of the buffer, and later bytes stay
+  -- the output stands in front of the buffer, and later bytes stay; of a refused text its number and line are told too
   pub record Printed (text before : List ℕ) (r : Written) (after : List ℕ) : Type 0 where
     pub bytes : List ℕ
     pub prints : Prints (puzzleIn text) bytes
     pub fits : length bytes ≤ length before
-    pub counted : r ≡ Bytes (length bytes)
+    pub counted : r ≡ toldOf (puzzleIn text) (length bytes)
     pub holds : after ≡ bytes ++ drop (length bytes) before
 
   -- a buffer of 16,384 bytes takes every output; one of another length is refused with 1

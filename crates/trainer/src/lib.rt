@@ -11,15 +11,26 @@ ghost use Rattle.puzzle.specs.Buffers.{buffers};
 ghost use Rattle.rules.specs.Numbers.{questionOf};
 ghost use Rattle.tables.specs.State.{machine64, shadowOf, stateOf};
 ghost use Rattle.render.specs.WrittenCode.{outOf, written};
-ghost use Rattle.trainer.specs.Call.{Call};
-ghost use Rattle.trainer.specs.Answers.{AnswersOf, AnswersCall};
-ghost use Rattle.trainer.specs.Run.{answerLine, RunCall};
+ghost use Rattle.trainer.specs.Call.{Call, bytesOf};
+ghost use Rattle.trainer.specs.Answers.{AnswersOf};
+ghost use Rattle.trainer.specs.Run.{answerLine};
 ghost use Rattle.trainer.specs.PartsCode.{LinesOf, Posed, Found, Answered, Startable, EventsPut, RunPut, Printable, AllPut, Counts, cut};
 
-// The number of bytes written, or why the call was refused.
+// The number of bytes written for an accepted text; a refused text's number, line and bytes; or why the call was refused.
 pub enum Written {
     Bytes(u64),
+    RefusedText(u64, u64, u64),
     Refused(u64),
+}
+
+pub fn bytes_of(r: Written) -> u64
+    ensures { λ n. ⌜ n ≡ bytesOf r ⌝ }
+{
+    match r {
+        Written::Bytes(n) => n,
+        Written::RefusedText(_, _, n) => n,
+        Written::Refused(_) => 0,
+    }
 }
 
 pub enum Program {
@@ -303,7 +314,8 @@ pub fn print(text: &[u8], output: &mut [u8], program: Program) -> Written
         &mut questions,
     ) {
         ReadResult::Refused(number, line) => {
-            Written::Bytes(render::put_line(output, 0, b'R', &[number, line]) as u64)
+            let n = render::put_line(output, 0, b'R', &[number, line]);
+            Written::RefusedText(number, line, n as u64)
         }
         ReadResult::Accepted {
             frames,
@@ -327,16 +339,4 @@ pub fn print(text: &[u8], output: &mut [u8], program: Program) -> Written
             ) as u64,
         ),
     }
-}
-
-pub fn answers(text: &[u8], output: &mut [u8]) -> Written
-    ensures { λ r. ⌜ AnswersCall (now (text .entry)) (now (output .entry)) r (now (output .exit)) ⌝ }
-{
-    print(text, output, Program::Answers)
-}
-
-pub fn run(text: &[u8], output: &mut [u8]) -> Written
-    ensures { λ r. ⌜ RunCall (now (text .entry)) (now (output .entry)) r (now (output .exit)) ⌝ }
-{
-    print(text, output, Program::Run)
 }

@@ -89,8 +89,9 @@ pub fn put_to_rule(rule: Rule, case: &Case) -> After {
         buffers: case.buffers.clone(),
     };
     let answer_length = match case.call {
-        Call::List | Call::Answers | Call::Run => 2,
+        Call::List => 2,
         Call::Event => 3,
+        Call::Answers | Call::Run => 4,
         Call::Read => 7,
         Call::Setup => 0,
     };
@@ -212,9 +213,14 @@ fn second_read(case: &Case, buffers: &mut [Vec<u64>]) -> Vec<u64> {
 fn second_program(case: &Case, buffers: &mut [Vec<u64>], program: fn(&[u8]) -> String) -> Vec<u64> {
     let output = &mut buffers[1];
     if output.len() != 16384 {
-        return vec![1, 0];
+        return vec![1, 0, 0, 0];
     }
-    let printed = program(&bytes(case.buffer("text")));
+    let text = bytes(case.buffer("text"));
+    let printed = program(&text);
     lay(output, printed.bytes().map(u64::from));
-    vec![0, printed.len() as u64]
+    let (number, line) = match puzzle::read(&text) {
+        Ok(_) => (0, 0),
+        Err(refused) => (refused.number, refused.line),
+    };
+    vec![0, printed.len() as u64, number, line]
 }

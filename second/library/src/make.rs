@@ -388,6 +388,6 @@ fn program(rng: &mut Prng, call: Call) -> Case {
     Case {
         call,
         numbers: Vec::new(),
-        buffers: vec![text(rng), noise(rng, 16384, 256), noise(rng, 2, u64::MAX)],
+        buffers: vec![text(rng), noise(rng, 16384, 256), noise(rng, 4, u64::MAX)],
     }
 }

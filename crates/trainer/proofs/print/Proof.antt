@@ -2,10 +2,10 @@
 use mathlib.Core.Path.{refl, subst, subst⁻¹}
 use native.Mathlib.Omega.{arith}
 use borrow.Author.Needs.{needs}
-use Rattle.sections.specs.Sections.{Got, Puzzle}
+use Rattle.sections.specs.Sections.{got, refused}
 use Rattle.puzzle.specs.Buffers.{Buffers, buffers}
 use Rattle.render.specs.Render.{renderRefusal}
-use Rattle.trainer.specs.Call.{puzzleIn, Prints}
+use Rattle.trainer.specs.Call.{puzzleIn}
 use Rattle.trainer.specs.PartsCode.{LinesOf, Printable, AllPut}
 use Rattle.trainer.proofs.Wholes.{zeros, says, told, took, call-by}
 use Rattle.trainer.proofs.print.Statement.{statement}
@@ -29,7 +29,7 @@ returns-2 c =
     let bytes = renderRefusal (n .0) (n .1 .0) in
     let m = told (puzzleIn (a .text .now)) zeros new (says (a .text .now) new (c .before .before .before .before .before .before .number .given .1) (c .before .before .before .before .before .before .before .before .before .before .before .before .before .read .ensures)) in
     call-by (LinesOf (a .program)) (a .text .now) (a .output .now) (c .before .before .put-line .result) (c .before .before .put-line .last .0) bytes
-    (subst⁻¹ (λ (x : Got Puzzle). Prints (LinesOf (a .program)) x bytes) m refl) (c .before .before .put-line .ensures .0) (omega (arith, c .before .before .put-line .ensures .1)) (c .before .before .before .before .before .before .before .before .before .before .before .before .before .before .before .before .before .before .before .if1 .left)
+    (refused (n .0) (n .1 .0)) m refl (c .before .before .put-line .ensures .0) (omega (arith, c .before .before .put-line .ensures .1)) (c .before .before .before .before .before .before .before .before .before .before .before .before .before .before .before .before .before .before .before .if1 .left)
 
 returns-3 : tie.Need-returns-3
 returns-3 c =
@@ -39,7 +39,7 @@ returns-3 c =
     let t = took (a .text .now) new (says (a .text .now) new (c .before .before .before .before .before .before .before .before .before .before .before .frames .given .1) (c .before .before .before .before .before .before .before .before .before .before .before .before .before .before .before .before .before .before .read .ensures)) in
     let r = subst (λ (b : Buffers). AllPut (LinesOf (a .program)) b (a .output .now) (c .before .before .before .put-puzzle .result) (c .before .before .before .put-puzzle .last .0)) (t .fronts) (c .before .before .before .put-puzzle .ensures) in
     call-by (LinesOf (a .program)) (a .text .now) (a .output .now) (c .before .before .before .put-puzzle .result) (c .before .before .before .put-puzzle .last .0) (r .bytes)
-    (subst⁻¹ (λ (x : Got Puzzle). Prints (LinesOf (a .program)) x (r .bytes)) (t .is) (r .lines)) (r .wrote) (r .few) (c .before .before .before .before .before .before .before .before .before .before .before .before .before .before .before .before .before .before .before .before .before .before .before .before .if1 .left)
+    (got (t .puzzle) (t .place)) (t .is) (r .lines) (r .wrote) (r .few) (c .before .before .before .before .before .before .before .before .before .before .before .before .before .before .before .before .before .before .before .before .before .before .before .before .if1 .left)
 
 pub print-spec : {M : Type 1} → statement M
 print-spec =

@@ -423,7 +423,7 @@ fn answers_times(text: &[u8]) -> Times {
         30,
         || vec![0u8; flamecurl::TEXT_OUTPUT],
         |output| {
-            let mut answer = [0; 2];
+            let mut answer = [0; 4];
             proved::answers(text, output, &mut answer);
             output[..answer[1] as usize].to_vec()
         },
