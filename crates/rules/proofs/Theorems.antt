@@ -6,7 +6,7 @@ use mathlib.Core.Logic.{_↔_}
 use mathlib.Core.Bool.{Bool, false}
 use mathlib.Core.List.{List}
 use Prim.Native.Nat.{ℕ, _+_, _≤_, _<_}
-use lib.ListN.{length}
+use lib.ListN.{length, take}
 use Rattle.paging.specs.declared.Walk.{Walk}
 use Rattle.paging.specs.Layout.{pageOf}
 use Rattle.paging.specs.Request.{requestOf}
@@ -24,6 +24,7 @@ use Rattle.rules.proofs.Views as L
 use Rattle.rules.proofs.Steps as S
 use Rattle.rules.proofs.Four as F
 use Rattle.rules.proofs.Inert as I
+use Rattle.rules.proofs.Before as E
 use Rattle.rules.proofs.Lists as R
 use Rattle.rules.proofs.Bounds as B
 use Rattle.rules.proofs.Answered as K
@@ -63,6 +64,10 @@ module _ (U : Setup) (es : List Event) (q : Question) (ok : Sound (U .tables)) w
   -- of a history that fits, it has at most G + 3 members
   pub at-most : Fit U es → q .proc < U .processors → (n : ℕ) (os : List Outcome) → RightAt U es q n os → length os ≤ U .frames + 3
   at-most fit h n os r = B.right-length _ _ (view-coherent U es (q .proc) _ ok) (view-rooted U es (q .proc) _ fit h) n os r
+
+  -- the list at moment n is that of the first n events
+  pub list-before : (n : ℕ) (os : List Outcome) → RightAt U es q n os ↔ RightAt U (take n es) q n os
+  list-before = E.list-before U es q ok
 
 -- events that change nothing can be taken out or put in: `f` keeps all events that count
 pub without-inert : (f : Event → Bool) → ((e : Event) → f e ≡ false → counts e ≡ false) → (U : Setup) (es : List Event) → Sound (U .tables)
