@@ -10,4 +10,5 @@ pub mod Bounds
 pub mod Four
 pub mod Inert
 pub mod Before
+pub mod Numbers
 pub mod Theorems

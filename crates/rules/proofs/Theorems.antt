@@ -16,6 +16,7 @@ use Rattle.rules.specs.declared.Question.{Question}
 use Rattle.rules.specs.declared.Outcome.{Outcome}
 use Rattle.rules.specs.History.{Setup, Fit}
 use Rattle.rules.specs.View.{View, viewOf}
+use Rattle.rules.specs.Numbers.{eventsOf, numbersOf}
 use Rattle.rules.specs.Held.{Held, Four}
 use Rattle.rules.specs.Outcome.{RightAt}
 use Rattle.rules.specs.Known.{AllSolved, starred, sides}
@@ -25,6 +26,7 @@ use Rattle.rules.proofs.Steps as S
 use Rattle.rules.proofs.Four as F
 use Rattle.rules.proofs.Inert as I
 use Rattle.rules.proofs.Before as E
+use Rattle.rules.proofs.Numbers as N
 use Rattle.rules.proofs.Lists as R
 use Rattle.rules.proofs.Bounds as B
 use Rattle.rules.proofs.Answered as K
@@ -73,6 +75,10 @@ module _ (U : Setup) (es : List Event) (q : Question) (ok : Sound (U .tables)) w
 pub without-inert : (f : Event → Bool) → ((e : Event) → f e ≡ false → counts e ≡ false) → (U : Setup) (es : List Event) → Sound (U .tables)
     → (q : Question) (os : List Outcome) → RightAt U es q (length es) os ↔ RightAt U (keep f es) q (length (keep f es)) os
 without-inert = I.fewer-right
+
+-- events that are written as numbers are read back
+pub events-back : (es : List Event) → eventsOf (numbersOf es) ≡ es
+events-back = N.events-back
 
 -- the known puzzles
 pub starred-solved : AllSolved starred
