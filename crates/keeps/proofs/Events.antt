@@ -17,7 +17,7 @@ use Rattle.tables.specs.State.{Machine, State, tableCount}
 use Rattle.shadow.specs.After.{Result, poolFits, inPool, framesFit, callRefusal, after, decode, moved, afterStore, afterInvlpg, afterCr3, afterAccess, afterBegin, afterExtend, afterDrop}
 use Rattle.shadow.proofs.Sizing.{hosts-below}
 use Rattle.shadow.proofs.Accepted.{accepted-ranged, accepted-room, accepted-exact, accepted-frames, accepted-lawful, accepted-cr3, accepted-numbers}
-use Rattle.shadow.proofs.Moves.{seventh, moved-store, moved-invlpg, moved-cr3, moved-access, moved-begin, moved-extend, moved-loss}
+use Rattle.shadow.proofs.Moves.{seventh, moved-store, moved-invlpg, moved-cr3, moved-access, moved-begin, moved-extend, moved-drop}
 use Rattle.trees.proofs.Trees.{Laid, Able, able}
 use Rattle.trees.proofs.Rules.{lawful-is}
 use Rattle.keeps.proofs.RightStates.{Mapped, RightState}
@@ -86,4 +86,4 @@ module _ (M : Machine) (map : List ℕ) (s : State) (e : Event) where
         go (no a) (no b) (no c) (no d) (no f) (yes q) = extend q (accepted-numbers M map s e ok .extends q) (taken ∙ sym (moved-extend M map s e q))
         go (no a) (no b) (no c) (no d) (no f) (no g) =
             let q = seventh (e .kind) (accepted-numbers M map s e ok .kind) a b c d f g in
-            drop q (accepted-numbers M map s e ok .loses q) (taken ∙ sym (moved-loss M map s e q))
+            drop q (accepted-numbers M map s e ok .drops q) (taken ∙ sym (moved-drop M map s e q))

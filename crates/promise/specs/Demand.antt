@@ -67,10 +67,15 @@ pub record Run : Type 0 where
 abbrev pub mayStandBetween : ℕ → Event → Bool
 mayStandBetween p e = not (isBy p e) || (isStore e || (isBegin e || (isExtend e || isDrop e)))
 
+-- What the machine does with an event is what the event call gives. The call is `after`; known runs are computed with its
+-- moves alone, without the tests that they pass.
+abbrev pub doneBy : (Machine → List ℕ → State → Event → Result) → Fresh → Event → State → Result
+doneBy call F e s = call (F .machine) (F .map) s e
+
 module _ (F : Fresh) (r : Run) where
-  -- what the machine does with event k + 1
+  -- what it does with event k + 1
   abbrev pub does : ℕ → State → Result
-  does k s = after (F .machine) (F .map) s (eventAt (r .events) k)
+  does k s = doneBy after F (eventAt (r .events) k) s
 
   -- the state at moment k, and after the losses of that moment
   unfoldable pub stateAt : ℕ → State
