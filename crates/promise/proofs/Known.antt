@@ -62,8 +62,8 @@ module _ (n : KnownRun) where
         let (setup, words) = both setupFits wordsFit two in
         (setup, words, starts, events)
 
-    pub setup-fits : D.SetupFits F
-    setup-fits = record { setup = eqb-true _ 0 (passed .0); words = eqb-true _ _ (passed .1) }
+    pub known-setup : D.SetupFits F
+    known-setup = record { setup = eqb-true _ 0 (passed .0); words = eqb-true _ _ (passed .1) }
 
     pub known-fits : Fit (guestOf F) (runOf n .events)
     known-fits = record {
@@ -75,7 +75,7 @@ module _ (n : KnownRun) where
       -- an event is what it does, since it is taken and no slot is lost
       quick : (k : ℕ) → k < length (n .events) → (s : State) → stateAt F (runOf n) k ≡ s → does F (runOf n) k (before F (runOf n) k) ≡ quickly n (eventAt (n .events) k) s
       quick k h s e =
-          events.taken (F .machine) (F .map) (before F (runOf n) k) (eventAt (n .events) k) (accepted F laid setup-fits (runOf n) known-fits k h)
+          events.taken (F .machine) (F .map) (before F (runOf n) k) (eventAt (n .events) k) (accepted F laid known-setup (runOf n) known-fits k h)
           ∙ ap (λ (t : State). quickly n (eventAt (n .events) k) t) (none-lost (F .machine) (stateAt F (runOf n) k) ∙ e)
 
       quick-state : (k : ℕ) → k ≤ length (n .events) → stateAt F (runOf n) k ≡ stateBy (quickly n) (n .events) (D.begun F) k
@@ -139,7 +139,7 @@ no-outcome code e = let n : _≡_ {A = ℕ} 0 1 = cc in omega arith
 
 pub settles-then : Settles (stored .machine) (runOf stored) 1
 unfolding stored
-settles-then = go (demand-three tables64 laid64 (stored .machine) refl (setup-fits stored stored-fits) (runOf stored) (known-fits stored stored-fits) 0 (omega arith) tt)
+settles-then = go (demand-three tables64 laid64 (stored .machine) refl (known-setup stored stored-fits) (runOf stored) (known-fits stored stored-fits) 0 (omega arith) tt)
   where
     go : SettlesInTwo (stored .machine) (runOf stored) 0 → Settles (stored .machine) (runOf stored) 1
     go (inl s) = absurd (no-outcome (s .says) first-again)
@@ -147,7 +147,7 @@ settles-then = go (demand-three tables64 laid64 (stored .machine) refl (setup-fi
 
 pub settles-at-once : Settles (stored .machine) (runOf stored) 3
 unfolding stored
-settles-at-once = go (demand-three tables64 laid64 (stored .machine) refl (setup-fits stored stored-fits) (runOf stored) (known-fits stored stored-fits) 3 (omega arith) tt)
+settles-at-once = go (demand-three tables64 laid64 (stored .machine) refl (known-setup stored stored-fits) (runOf stored) (known-fits stored stored-fits) 3 (omega arith) tt)
   where
     go : SettlesInTwo (stored .machine) (runOf stored) 3 → Settles (stored .machine) (runOf stored) 3
     go (inl s) = s

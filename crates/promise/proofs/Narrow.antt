@@ -23,7 +23,7 @@ use Rattle.trees.proofs.Entries.{laid32}
 use Rattle.promise.specs.Demand.{Accepts, Demand, SettlesInTwo}
 use Rattle.promise.specs.Known.{KnownRun, runOf, Answers}
 use Rattle.promise.proofs.Quick.{answersBy, Quick}
-use Rattle.promise.proofs.Known.{runFits, setup-fits, known-fits, answers}
+use Rattle.promise.proofs.Known.{runFits, known-setup, known-fits, answers}
 use Rattle.promise.proofs.Theorems.{every-event-taken, demand-three}
 
 pub every-event-taken-32 : Accepts tables32
@@ -67,4 +67,4 @@ halves-answers = answers halves halves-fits laid32 halves-quick
 
 pub halves-settles : SettlesInTwo (halves .machine) (runOf halves) 0
 unfolding halves
-halves-settles = demand-three-32 (halves .machine) refl (setup-fits halves halves-fits) (runOf halves) (known-fits halves halves-fits) 0 (omega arith) tt
+halves-settles = demand-three-32 (halves .machine) refl (known-setup halves halves-fits) (runOf halves) (known-fits halves halves-fits) 0 (omega arith) tt
