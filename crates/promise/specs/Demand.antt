@@ -7,7 +7,7 @@ use mathlib.Core.Bool.{Bool, cond, not, _||_}
 use mathlib.Core.List.{List, List·Memᴰ}
 use Prim.Native.Nat.{ℕ, zero, suc, _*_, _<_}
 use lib.Dec.{T}
-use lib.ListN.{length}
+use lib.ListN.{length, take}
 use Rattle.paging.specs.declared.Guest.{Guest}
 use Rattle.paging.specs.Numbers.{each}
 use Rattle.paging.specs.Frame.{hostOf}
@@ -102,7 +102,7 @@ module _ (F : Fresh) (r : Run) where
     pub outcome : Outcome
     pub says : Says (eventAt (r .events) k .a) (answerAt k) outcome
     pub list : List Outcome
-    pub right : RightAt (guestOf F) (r .events) (questionAt k) k list
+    pub right : RightAt (guestOf F) (take k (r .events)) (questionAt k) k list
     pub stands : List·Memᴰ outcome list
 
   -- the access of moment k settles, or it is to be put again and then settles
