@@ -1,9 +1,12 @@
--- A call is accepted where the state rules hold and its event is within the ranges.
-use mathlib.Core.Path.{_≡_, refl, sym}
+-- Where the state rules hold a call is refused for its own event only, with that event's number; so it is accepted where the
+-- event is within the ranges.
+use mathlib.Core.Path.{_≡_, refl, sym, _∙_}
 use mathlib.Core.Bool.{true, not, _&&_}
 use mathlib.Core.List.{List, [], _∷_}
 use Prim.Native.Nat.{ℕ, _*_}
+use native.Mathlib.Decide.{ℕ-discrete}
 use native.Mathlib.Omega.{arith}
+use lib.Dec.{eqb}
 use lib.ListN.{length}
 use borrow.Author.Tests.{eq-eqb, le-leb}
 use Rattle.paging.specs.Layout.{frameWords}
@@ -11,9 +14,10 @@ use Rattle.rules.specs.declared.Event.{Event}
 use Rattle.rules.specs.Refusal.{test, refusal}
 use Rattle.rules.specs.History.{eventRefusal}
 use Rattle.tables.specs.State.{Machine, State, tableCount}
+use Rattle.lawful.specs.Rules.{lawful}
 use Rattle.shadow.specs.After.{asSetup, rangesFit, lengthsFit, framesFit, callRefusal}
 use Rattle.shadow.proofs.Sizing.{Ranged}
-use Rattle.shadow.proofs.Accepted.{call-accepted}
+use Rattle.shadow.proofs.Accepted.{call-accepted, call-event}
 use Rattle.trees.proofs.Trees.{Able}
 use Rattle.trees.proofs.Rules.{lawful-is}
 use Rattle.keeps.proofs.RightStates.{Mapped, RightState}
@@ -51,7 +55,19 @@ module _ (M : Machine) (map : List ℕ) (s : State) (ok : Able M) (ranged : Rang
   unfolding refusal
   early = simp (ranges M ranged, lengths, frames)
 
+  whole : true ≡ eqb (length (s .words)) (frameWords * M .frames)
+  whole = sym (eq-eqb (length (s .words)) (frameWords * M .frames) words)
+
+  right : lawful M map s ≡ true
+  right = lawful-is M ok map (fits .outside) s (r .law .trees .exact) .1 (r .law)
+
   pub accepts : (e : Event) → eventRefusal (asSetup M s) e ≡ 0 → callRefusal M map s e ≡ 0
-  accepts e fit =
-      sym (call-accepted M map s e {w = true} (sym (eq-eqb (length (s .words)) (frameWords * M .frames) words)) early
-      (lawful-is M ok map (fits .outside) s (r .law .trees .exact) .1 (r .law)) (sym fit) (omega (arith, ranged .share)))
+  accepts e fit = sym (call-accepted M map s e {w = true} whole early right (sym fit) (omega (arith, ranged .share)))
+
+  -- THE NUMBER OF A CALL IS THAT OF ITS EVENT
+  pub own-number : (e : Event) → callRefusal M map s e ≡ eventRefusal (asSetup M s) e
+  own-number e = go (ℕ-discrete (eventRefusal (asSetup M s) e) 0)
+    where
+      go : Dec (eventRefusal (asSetup M s) e ≡ 0) → callRefusal M map s e ≡ eventRefusal (asSetup M s) e
+      go (yes z) = accepts e z ∙ sym z
+      go (no n) = sym (call-event M map s e {w = true} whole early right refl n)

@@ -1,10 +1,17 @@
 -- What is proved of the list call. Its promise is `ListCall` in specs/Call; `list` in src/ is proved to keep it.
 use mathlib.Core.Path.{_≡_, sym, _∙_}
-use Prim.Native.Nat.{_<_}
+use mathlib.Core.Bool.{Bool, true, false, cond}
+use mathlib.Core.Logic.{inl}
+use Prim.Native.Nat.{ℕ, zero, suc, _/_, _<_}
 use native.Mathlib.Decide.{ℕ-discrete}
+use native.Mathlib.Omega.{arith}
+use lib.Dec.{eqb}
 use lib.ListN.{length}
+use Rattle.rules.specs.Numbers.{eventOf}
+use Rattle.rules.specs.History.{eventRefusal}
+use Rattle.rules.proofs.Ranges.{below-twelve, event-below-twelve}
 use Rattle.listing.specs.declared.Listed.{Listed}
-use Rattle.listing.specs.Call.{Asked, Lent, refusalOf, countOf, listRefusal, ListCall}
+use Rattle.listing.specs.Call.{Asked, Lent, setupAsked, refusalOf, countOf, orElse, firstRefusal, listRefusal, ListCall}
 use Rattle.listing.proofs.Accepts.{accepted}
 use Rattle.listing.proofs.Promise.{same-lists, same-answer}
 
@@ -24,3 +31,25 @@ one-result q before r s x y a b = go (ℕ-discrete (listRefusal q before) 0)
         let some : 0 < length (q .map) = accepted q before z .sizes .some in
         let (buffers, counts, more) = same-lists q before some x y (countOf r) (countOf s) (a .listed z) (b .listed z) in
         (same-answer q before r s numbers counts (λ e. more), buffers)
+
+-- ITS NUMBER IS BELOW 12
+
+either-below : (n m : ℕ) → n < 12 → m < 12 → orElse n m < 12
+either-below n m a b = go (eqb n 0)
+  where
+    go : (t : Bool) → cond t m n < 12
+    go true = b
+    go false = a
+
+first-below : (n : ℕ) (f : ℕ → ℕ) → ((k : ℕ) → f k < 12) → firstRefusal n f < 12
+unfolding firstRefusal
+first-below zero f each = omega arith
+first-below (suc n) f each = either-below (firstRefusal n f) (f n) (first-below n f each) (each n)
+
+pub list-below-twelve : (q : Asked) (before : Lent) → listRefusal q before < 12
+unfolding listRefusal
+list-below-twelve q before =
+    either-below _ _ (below-twelve _ (inl (omega arith), (inl (omega arith), (inl (omega arith), tt))))
+    (either-below _ _
+    (first-below (length (q .events) / 4) (λ k. eventRefusal (setupAsked q before) (eventOf (q .events) k)) (λ k. event-below-twelve (setupAsked q before) (eventOf (q .events) k)))
+    (event-below-twelve (setupAsked q before) _))

@@ -1,7 +1,7 @@
--- Document 01's own run meets the hypotheses of demand 3, and its answers are computed: both branches are there.
-use mathlib.Core.Path.{_≡_, refl, sym, ap, ap₂, _∙_}
+-- The known runs meet the hypotheses of demand 3, and their answers are computed. Document 01's own has both branches.
+use mathlib.Core.Path.{_≡_, refl, sym, ap, _∙_}
 use mathlib.Core.Bool.{Bool, true, false, _&&_}
-use mathlib.Core.List.{List, _∷_}
+use mathlib.Core.List.{List}
 use mathlib.Core.Logic.{inl, inr}
 use Prim.Native.Nat.{ℕ, zero, suc, _*_, _≤_, _<_}
 use native.Mathlib.Omega.{arith}
@@ -9,11 +9,12 @@ use lib.Dec.{eqb, ltb}
 use lib.ListN.{length, getD}
 use borrow.Author.Tests.{eqb-true, ltb-true}
 use Rattle.paging.specs.Layout.{tables64}
-use Rattle.paging.specs.Numbers.{all, each, tab}
+use Rattle.paging.specs.Numbers.{all, each}
 use Rattle.paging.proofs.Numbers.{all-at, tab-at}
 use Rattle.rules.specs.declared.Outcome.{Outcome}
 use Rattle.rules.specs.Refusal.{refusal}
 use Rattle.rules.specs.History.{Fit, eventAt, eventRefusal}
+use Rattle.rules.proofs.Numbers.{tab-same}
 use Rattle.tables.specs.State.{State}
 use Rattle.shadow.specs.declared.Answer.{Answer}
 use Rattle.shadow.specs.declared.Answer.the-variants.{Done, Address, Again}
@@ -24,16 +25,12 @@ use Rattle.trees.proofs.Trees.{Laid}
 use Rattle.trees.proofs.Entries.{laid64}
 use Rattle.keeps.proofs.Events as events
 use Rattle.promise.specs.Demand as D
-use Rattle.promise.specs.Demand.{Fresh, Run, guestOf, losing, stateAt, before, answerAt, Says, place, code, Settles, SettlesInTwo}
-use Rattle.promise.specs.Known.{KnownRun, runOf, stored, narrowed}
-use Rattle.promise.proofs.Quick.{quickly, quickAt, quickAnswer, stored-quick, narrowed-quick}
+use Rattle.promise.specs.Demand.{Fresh, Run, guestOf, does, stateAt, before, answerAt, Says, place, code, Settles, SettlesInTwo}
+use Rattle.promise.specs.Known.{KnownRun, runOf, Answers, AllAnswer, runs, stored, narrowed, beside, slotted, crowded, written}
+use Rattle.promise.proofs.Quick.{stateBy, answers-by, quickly, Quick, stored-quick, narrowed-quick, beside-quick, slotted-quick, crowded-quick, written-quick}
+use Rattle.promise.proofs.Lossless.{none-lost}
 use Rattle.promise.proofs.Started.{accepted}
 use Rattle.promise.proofs.Theorems.{demand-three}
-
-tab-same : (n : ℕ) (f g : ℕ → Answer) → ((k : ℕ) → k < n → f k ≡ g k) → tab n f ≡ tab n g
-unfolding tab
-tab-same zero f g same = refl
-tab-same (suc n) f g same = ap₂ _∷_ (same 0 (omega arith)) (tab-same n (λ k. f (suc k)) (λ k. g (suc k)) (λ k h. same (suc k) (omega arith)))
 
 -- ---- the hypotheses, as tests
 
@@ -75,44 +72,57 @@ module _ (n : KnownRun) where
     }
 
     module _ (laid : Laid (F .machine .tables)) where
-      quick-state : (k : ℕ) → k ≤ length (n .events) → stateAt F (runOf n) k ≡ quickAt n k
-      unfolding stateAt quickAt
-      quick-state zero h = refl
-      quick-state (suc k) h =
-          ap (λ (x : Result). x .state) (events.taken (F .machine) (F .map) (before F (runOf n) k) (eventAt (n .events) k) (accepted F laid known-setup (runOf n) known-fits k (omega arith)))
-          ∙ ap (λ (s : State). quickly n k (losing (F .machine) (λ p j. false) s) .state) (quick-state k (omega arith))
+      -- an event is what it does, since it is taken and no slot is lost
+      quick : (k : ℕ) → k < length (n .events) → (s : State) → stateAt F (runOf n) k ≡ s → does F (runOf n) k (before F (runOf n) k) ≡ quickly n (eventAt (n .events) k) s
+      quick k h s e =
+          events.taken (F .machine) (F .map) (before F (runOf n) k) (eventAt (n .events) k) (accepted F laid known-setup (runOf n) known-fits k h)
+          ∙ ap (λ (t : State). quickly n (eventAt (n .events) k) t) (none-lost (F .machine) (stateAt F (runOf n) k) ∙ e)
 
-      quick-answer : (k : ℕ) → k < length (n .events) → answerAt F (runOf n) k ≡ quickAnswer n k
-      quick-answer k h =
-          ap (λ (x : Result). x .answer) (events.taken (F .machine) (F .map) (before F (runOf n) k) (eventAt (n .events) k) (accepted F laid known-setup (runOf n) known-fits k h))
-          ∙ ap (λ (s : State). quickly n k (losing (F .machine) (λ p j. false) s) .answer) (quick-state k (omega arith))
+      quick-state : (k : ℕ) → k ≤ length (n .events) → stateAt F (runOf n) k ≡ stateBy (quickly n) (n .events) (D.begun F) k
+      unfolding stateAt stateBy
+      quick-state zero h = refl
+      quick-state (suc k) h = ap (λ (x : Result). x .state) (quick k (omega arith) _ (quick-state k (omega arith)))
 
       -- A KNOWN RUN ANSWERS WHAT ITS TABLE SAYS
-      pub known-answers : tab (length (n .events)) (quickAnswer n) ≡ n .answers → tab (length (n .events)) (answerAt F (runOf n)) ≡ n .answers
-      known-answers e = tab-same (length (n .events)) (answerAt F (runOf n)) (quickAnswer n) quick-answer ∙ e
+      pub answers : Quick n → Answers n
+      answers e =
+          tab-same (length (n .events)) (answerAt F (runOf n)) (λ k. quickly n (eventAt (n .events) k) (stateBy (quickly n) (n .events) (D.begun F) k) .answer)
+          (λ k h. ap (λ (x : Result). x .answer) (quick k h _ (quick-state k (omega arith))))
+          ∙ answers-by (quickly n) (n .events) (D.begun F) ∙ e
 
 stored-fits : runFits stored ≡ true
 unfolding runFits stored setupRefusal refusal eventRefusal all rangesFit lengthsFit framesFit poolFits inPool mapFits cr3sFit rooted each
 stored-fits = refl
 
-narrowed-fits : runFits narrowed ≡ true
-unfolding runFits narrowed setupRefusal refusal eventRefusal all rangesFit lengthsFit framesFit poolFits inPool mapFits cr3sFit rooted each
-narrowed-fits = refl
+others-fit : (runFits narrowed ≡ true) × (runFits beside ≡ true) × (runFits slotted ≡ true) × (runFits crowded ≡ true) × (runFits written ≡ true)
+unfolding runFits narrowed beside slotted crowded written setupRefusal refusal eventRefusal all rangesFit lengthsFit framesFit poolFits inPool mapFits cr3sFit rooted each
+others-fit = (refl, refl, refl, refl, refl)
 
--- THE KNOWN RUNS
-pub stored-answers : tab (length (stored .events)) (answerAt (stored .machine) (runOf stored)) ≡ stored .answers
-unfolding stored
-stored-answers = known-answers stored stored-fits laid64 stored-quick
-
-pub narrowed-answers : tab (length (narrowed .events)) (answerAt (narrowed .machine) (runOf narrowed)) ≡ narrowed .answers
-unfolding narrowed
-narrowed-answers = known-answers narrowed narrowed-fits laid64 narrowed-quick
+-- EVERY KNOWN RUN MEETS THE HYPOTHESES OF DEMAND 3 AND ANSWERS WHAT ITS TABLE SAYS
+pub runs-answer : AllAnswer runs
+unfolding stored narrowed beside slotted crowded written
+runs-answer = (
+  answers stored stored-fits laid64 stored-quick,
+  (
+    answers narrowed (others-fit .0) laid64 narrowed-quick,
+    (
+      answers beside (others-fit .1) laid64 beside-quick,
+      (
+        answers slotted (others-fit .2) laid64 slotted-quick,
+        (
+          answers crowded (others-fit .3) laid64 crowded-quick,
+          (answers written (others-fit .4) laid64 written-quick, tt),
+        ),
+      ),
+    ),
+  ),
+)
 
 -- ---- BOTH BRANCHES OF DEMAND 3: the first access is to be put again and settles then, the fourth event settles at once
 
 answer : (k : ℕ) → k < 7 → answerAt (stored .machine) (runOf stored) k ≡ getD (stored .answers) k Done
 unfolding stored
-answer k h = sym (tab-at 7 (answerAt (stored .machine) (runOf stored)) k Done h) ∙ ap (λ (l : List Answer). getD l k Done) stored-answers
+answer k h = sym (tab-at 7 (answerAt (stored .machine) (runOf stored)) k Done h) ∙ ap (λ (l : List Answer). getD l k Done) (runs-answer .0)
 
 first-again : answerAt (stored .machine) (runOf stored) 0 ≡ Again
 unfolding stored

@@ -7,6 +7,7 @@ pub mod GuestWalks
 pub mod Accessed
 pub mod Carried
 pub mod Losing
+pub mod Lossless
 pub mod Begun
 pub mod Started
 pub mod Sound

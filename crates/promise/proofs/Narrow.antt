@@ -5,8 +5,8 @@ use mathlib.Core.Bool.{true}
 use mathlib.Core.List.{[], _∷_}
 use Prim.Native.Nat.{ℕ, _+_, _*_, _^_}
 use native.Mathlib.Omega.{arith}
-use lib.ListN.{length, set, replicate}
-use Rattle.paging.specs.Numbers.{all, each, tab, firstFrom, sum}
+use lib.ListN.{set, replicate}
+use Rattle.paging.specs.Numbers.{all, each, firstFrom, sum}
 use Rattle.paging.specs.Frame.{mapFits, cr3sFit}
 use Rattle.paging.specs.Layout.{get, put, index, pageOf, frameOf, rightsOf, compose, isPresent, withBit}
 use Rattle.paging.specs.Walk.{meet, step}
@@ -20,10 +20,10 @@ use Rattle.tables.specs.Steps.{servingSlot, flush, flushed, walkFrom, leafOf, f
 use Rattle.shadow.specs.declared.Answer.the-variants.{Done, Address, Fault, Again}
 use Rattle.shadow.specs.After.{rangesFit, lengthsFit, poolFits, inPool, framesFit, moved, dirtied, leafCleared, afterInvlpg, fill, afterMiss, afterAccess, rooted, setupRefusal}
 use Rattle.trees.proofs.Entries.{laid32}
-use Rattle.promise.specs.Demand.{Accepts, Demand, losing, answerAt, SettlesInTwo}
-use Rattle.promise.specs.Known.{KnownRun, runOf}
-use Rattle.promise.proofs.Quick.{quickAt, quickAnswer}
-use Rattle.promise.proofs.Known.{runFits, known-setup, known-fits, known-answers}
+use Rattle.promise.specs.Demand.{Accepts, Demand, SettlesInTwo}
+use Rattle.promise.specs.Known.{KnownRun, runOf, Answers}
+use Rattle.promise.proofs.Quick.{answersBy, Quick}
+use Rattle.promise.proofs.Known.{runFits, known-setup, known-fits, answers}
 use Rattle.promise.proofs.Theorems.{every-event-taken, demand-three}
 
 pub every-event-taken-32 : Accepts tables32
@@ -57,13 +57,13 @@ halves-fits : runFits halves ≡ true
 unfolding runFits halves setupRefusal refusal eventRefusal all rangesFit lengthsFit framesFit poolFits inPool mapFits cr3sFit rooted each
 halves-fits = refl
 
-halves-quick : tab (length (halves .events)) (quickAnswer halves) ≡ halves .answers
-unfolding tab halves quickAt moved losing each afterAccess afterMiss afterInvlpg fill settle build freeTable named get put index pageOf frameOf rightsOf compose isPresent meet descend servingSlot firstFrom flush flushed walkFrom step requestOf enough dirtied leafOf leafCleared freeCount taken sum withBit rooted
+halves-quick : Quick halves
+unfolding halves answersBy moved each afterAccess afterMiss afterInvlpg fill settle build freeTable named get put index pageOf frameOf rightsOf compose isPresent meet descend servingSlot firstFrom flush flushed walkFrom step requestOf enough dirtied leafOf leafCleared freeCount taken sum withBit rooted
 halves-quick = refl
 
-pub halves-answers : tab (length (halves .events)) (answerAt (halves .machine) (runOf halves)) ≡ halves .answers
+pub halves-answers : Answers halves
 unfolding halves
-halves-answers = known-answers halves halves-fits laid32 halves-quick
+halves-answers = answers halves halves-fits laid32 halves-quick
 
 pub halves-settles : SettlesInTwo (halves .machine) (runOf halves) 0
 unfolding halves

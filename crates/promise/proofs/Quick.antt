@@ -1,40 +1,81 @@
 -- The known runs, computed: each event by what it does, without the tests that it passes.
-use mathlib.Core.Path.{_≡_, refl}
-use mathlib.Core.Bool.{false}
+use mathlib.Core.Path.{_≡_, refl, ap, _∙_}
+use mathlib.Core.List.{List, [], _∷_}
 use Prim.Native.Nat.{ℕ, zero, suc}
 use lib.ListN.{length}
 use Rattle.paging.specs.Numbers.{each, tab, firstFrom, sum}
+use Rattle.paging.specs.Frame.{originFrom}
 use Rattle.paging.specs.Layout.{get, put, index, pageOf, frameOf, rightsOf, compose, isPresent, withBit}
 use Rattle.paging.specs.Walk.{meet, step}
 use Rattle.paging.specs.Request.{requestOf, enough}
+use Rattle.rules.specs.declared.Event.{Event}
 use Rattle.rules.specs.History.{eventAt}
-use Rattle.tables.specs.State.{State, named, descend}
-use Rattle.tables.specs.Steps.{servingSlot, flush, flushed, walkFrom, leafOf, freeCount, taken, settle, build, freeTable}
+use Rattle.rules.proofs.Numbers.{tab-same}
+use Rattle.tables.specs.State.{Machine, State, named, descend}
+use Rattle.tables.specs.Steps.{servingSlot, flush, flushed, emptySlots, walkFrom, leafOf, zeroed, freeCount, taken, settle, build, freeTable, emptyShare}
 use Rattle.shadow.specs.declared.Answer.{Answer}
-use Rattle.shadow.specs.After.{Result, decode, moved, dirtied, leafCleared, afterInvlpg, fill, afterMiss, afterAccess, rooted}
+use Rattle.shadow.specs.After.{Result, decode, moved, dirtied, leafCleared, afterInvlpg, afterBegin, placeBelow, afterExtend, afterDrop, fill, afterMiss, afterAccess, rooted}
 use Rattle.promise.specs.Demand as D
-use Rattle.promise.specs.Demand.{Fresh, losing}
-use Rattle.promise.specs.Known.{KnownRun, stored, narrowed}
+use Rattle.promise.specs.Demand.{doneBy}
+use Rattle.promise.specs.Known.{KnownRun, stored, narrowed, beside, slotted, crowded, written}
 
-module _ (n : KnownRun) where
-  abbrev F : Fresh
-  F = n .machine
+-- ---- one event after the other, each once
 
-  -- what an accepted event does
-  abbrev pub quickly : ℕ → State → Result
-  quickly k s = moved (F .machine) (F .map) (eventAt (n .events) k .proc) (decode (eventAt (n .events) k)) s
+module _ (act : Event → State → Result) where
+  unfoldable pub stateBy : List Event → State → ℕ → State
+  stateBy es s zero = s
+  stateBy es s (suc k) = act (eventAt es k) (stateBy es s k) .state
 
-  unfoldable pub quickAt : ℕ → State
-  quickAt zero = D.begun F
-  quickAt (suc k) = quickly k (losing (F .machine) (λ p j. false) (quickAt k)) .state
+  unfoldable pub answersBy : List Event → State → List Answer
+  answersBy [] s = []
+  answersBy (e ∷ es) s = let x = act e s in x .answer ∷ answersBy es (x .state)
 
-  abbrev pub quickAnswer : ℕ → Answer
-  quickAnswer k = quickly k (losing (F .machine) (λ p j. false) (quickAt k)) .answer
+  state-later : (e : Event) (es : List Event) (s : State) (k : ℕ) → stateBy (e ∷ es) s (suc k) ≡ stateBy es (act e s .state) k
+  unfolding stateBy
+  state-later e es s zero = refl
+  state-later e es s (suc k) = ap (λ (t : State). act (eventAt es k) t .state) (state-later e es s k)
 
-pub stored-quick : tab (length (stored .events)) (quickAnswer stored) ≡ stored .answers
-unfolding tab stored quickAt moved losing each afterAccess afterMiss afterInvlpg fill settle build named get put index pageOf frameOf rightsOf compose isPresent meet descend servingSlot firstFrom flush flushed walkFrom step requestOf enough dirtied leafOf leafCleared freeCount taken sum withBit rooted
+  pub answers-by : (es : List Event) (s : State) → tab (length es) (λ k. act (eventAt es k) (stateBy es s k) .answer) ≡ answersBy es s
+  unfolding tab answersBy stateBy
+  answers-by [] s = refl
+  answers-by (e ∷ es) s =
+      ap (λ (l : List Answer). act e s .answer ∷ l)
+      (tab-same (length es) (λ k. act (eventAt es k) (stateBy (e ∷ es) s (suc k)) .answer) (λ k. act (eventAt es k) (stateBy es (act e s .state) k) .answer)
+      (λ k h. ap (λ (t : State). act (eventAt es k) t .answer) (state-later e es s k))
+      ∙ answers-by es (act e s .state))
+
+-- ---- known runs
+
+-- what an accepted event does
+abbrev pub acts : Machine → List ℕ → State → Event → Result
+acts M map s e = moved M map (e .proc) (decode e) s
+
+abbrev pub quickly : KnownRun → Event → State → Result
+quickly n e s = doneBy acts (n .machine) e s
+
+abbrev pub Quick : KnownRun → Type 0
+Quick n = answersBy (quickly n) (n .events) (D.begun (n .machine)) ≡ n .answers
+
+pub stored-quick : Quick stored
+unfolding stored answersBy moved each afterAccess afterMiss afterInvlpg afterBegin placeBelow afterExtend afterDrop fill settle build freeTable emptyShare emptySlots zeroed named get put index pageOf frameOf rightsOf compose isPresent meet descend servingSlot firstFrom flush flushed walkFrom step requestOf enough dirtied leafOf leafCleared freeCount taken sum withBit rooted originFrom
 stored-quick = refl
 
-pub narrowed-quick : tab (length (narrowed .events)) (quickAnswer narrowed) ≡ narrowed .answers
-unfolding tab narrowed quickAt moved losing each afterAccess afterMiss afterInvlpg fill settle build freeTable named get put index pageOf frameOf rightsOf compose isPresent meet descend servingSlot firstFrom flush flushed walkFrom step requestOf enough dirtied leafOf leafCleared freeCount taken sum withBit rooted
+pub narrowed-quick : Quick narrowed
+unfolding narrowed answersBy moved each afterAccess afterMiss afterInvlpg afterBegin placeBelow afterExtend afterDrop fill settle build freeTable emptyShare emptySlots zeroed named get put index pageOf frameOf rightsOf compose isPresent meet descend servingSlot firstFrom flush flushed walkFrom step requestOf enough dirtied leafOf leafCleared freeCount taken sum withBit rooted originFrom
 narrowed-quick = refl
+
+pub beside-quick : Quick beside
+unfolding beside answersBy moved each afterAccess afterMiss afterInvlpg afterBegin placeBelow afterExtend afterDrop fill settle build freeTable emptyShare emptySlots zeroed named get put index pageOf frameOf rightsOf compose isPresent meet descend servingSlot firstFrom flush flushed walkFrom step requestOf enough dirtied leafOf leafCleared freeCount taken sum withBit rooted originFrom
+beside-quick = refl
+
+pub slotted-quick : Quick slotted
+unfolding slotted answersBy moved each afterAccess afterMiss afterInvlpg afterBegin placeBelow afterExtend afterDrop fill settle build freeTable emptyShare emptySlots zeroed named get put index pageOf frameOf rightsOf compose isPresent meet descend servingSlot firstFrom flush flushed walkFrom step requestOf enough dirtied leafOf leafCleared freeCount taken sum withBit rooted originFrom
+slotted-quick = refl
+
+pub crowded-quick : Quick crowded
+unfolding crowded answersBy moved each afterAccess afterMiss afterInvlpg afterBegin placeBelow afterExtend afterDrop fill settle build freeTable emptyShare emptySlots zeroed named get put index pageOf frameOf rightsOf compose isPresent meet descend servingSlot firstFrom flush flushed walkFrom step requestOf enough dirtied leafOf leafCleared freeCount taken sum withBit rooted originFrom
+crowded-quick = refl
+
+pub written-quick : Quick written
+unfolding written answersBy moved each afterAccess afterMiss afterInvlpg afterBegin placeBelow afterExtend afterDrop fill settle build freeTable emptyShare emptySlots zeroed named get put index pageOf frameOf rightsOf compose isPresent meet descend servingSlot firstFrom flush flushed walkFrom step requestOf enough dirtied leafOf leafCleared freeCount taken sum withBit rooted originFrom
+written-quick = refl

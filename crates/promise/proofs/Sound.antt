@@ -19,7 +19,7 @@ use Rattle.rules.specs.History.{Fit, eventAt}
 use Rattle.rules.specs.View.{View}
 use Rattle.rules.specs.Outcome.{Permitted}
 use Rattle.rules.specs.Coherent.{Coherent}
-use Rattle.rules.proofs.Theorems.{a-list}
+use Rattle.rules.proofs.Theorems.{a-list, list-before}
 use Rattle.tables.specs.declared.Walked.{Walked}
 use Rattle.tables.specs.declared.Walked.the-variants.{Fault}
 use Rattle.tables.specs.State.{Machine, State, slotCount, markOf, pageIn, placeIn, rightsIn}
@@ -80,7 +80,13 @@ module _ (F : Fresh) (laid : Laid (F .machine .tables)) (fresh : D.SetupFits F) 
   stands : {o : Outcome} → Says F r (e .a) (answerAt F r k) o → Permitted view q k o → Settles F r k
   stands {o} says permitted =
       let l = a-list (guestOf F) (r .events) (questionAt F r k) (laid .sound) k in
-      record { outcome = o; says = says; list = l .0; right = l .1; stands = l .1 .exact o .1 permitted }
+      record {
+        outcome = o;
+        says = says;
+        list = l .0;
+        right = list-before (guestOf F) (r .events) (questionAt F r k) (laid .sound) k (l .0) .0 (l .1);
+        stands = l .1 .exact o .1 permitted;
+      }
 
   -- an address, from a held walk behind it
   answered : (g : Guest) (rights : ℕ) → g .0 < M .frames → Backed view k g rights → q .needs < 8 → enough q rights ≡ true

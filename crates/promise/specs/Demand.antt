@@ -7,7 +7,7 @@ use mathlib.Core.Bool.{Bool, cond, not, _||_}
 use mathlib.Core.List.{List, List·Memᴰ}
 use Prim.Native.Nat.{ℕ, zero, suc, _*_, _<_}
 use lib.Dec.{T}
-use lib.ListN.{length}
+use lib.ListN.{length, take}
 use Rattle.paging.specs.declared.Guest.{Guest}
 use Rattle.paging.specs.Numbers.{each}
 use Rattle.paging.specs.Frame.{hostOf}
@@ -67,10 +67,15 @@ pub record Run : Type 0 where
 abbrev pub mayStandBetween : ℕ → Event → Bool
 mayStandBetween p e = not (isBy p e) || (isStore e || (isBegin e || (isExtend e || isDrop e)))
 
+-- What the machine does with an event is what the event call gives. The call is `after`; known runs are computed with its
+-- moves alone, without the tests that they pass.
+abbrev pub doneBy : (Machine → List ℕ → State → Event → Result) → Fresh → Event → State → Result
+doneBy call F e s = call (F .machine) (F .map) s e
+
 module _ (F : Fresh) (r : Run) where
-  -- what the machine does with event k + 1
+  -- what it does with event k + 1
   abbrev pub does : ℕ → State → Result
-  does k s = after (F .machine) (F .map) s (eventAt (r .events) k)
+  does k s = doneBy after F (eventAt (r .events) k) s
 
   -- the state at moment k, and after the losses of that moment
   unfoldable pub stateAt : ℕ → State
@@ -97,7 +102,7 @@ module _ (F : Fresh) (r : Run) where
     pub outcome : Outcome
     pub says : Says (eventAt (r .events) k .a) (answerAt k) outcome
     pub list : List Outcome
-    pub right : RightAt (guestOf F) (r .events) (questionAt k) k list
+    pub right : RightAt (guestOf F) (take k (r .events)) (questionAt k) k list
     pub stands : List·Memᴰ outcome list
 
   -- the access of moment k settles, or it is to be put again and then settles

@@ -4,4 +4,5 @@ pub mod Accepted
 pub mod Fills
 pub mod Calls
 pub mod Fits
+pub mod Faults
 pub mod Theorems

@@ -1,6 +1,6 @@
 -- What the reader of a puzzle may rely on.
 use mathlib.Core.Path.{_≡_, sym, _∙_}
-use mathlib.Core.Logic.{_↔_}
+use mathlib.Core.Logic.{_↔_, _⊎_}
 use mathlib.Core.List.{List}
 use Prim.Native.Nat.{ℕ, _*_, _^_, _<_}
 use lib.ListN.{length, getD, length-replicate}
@@ -11,17 +11,22 @@ use Rattle.paging.proofs.Frames.{Distinct}
 use Rattle.rules.specs.declared.Event.{Event}
 use Rattle.rules.specs.History.{eventRefusal, setup64}
 use Rattle.rules.specs.Outcome.{questionRefusal}
-use Rattle.sections.specs.Sections.{got, Puzzle, puzzleOf}
+use Rattle.sections.specs.Sections.{got, refused, Puzzle, puzzleOf}
 use Rattle.puzzle.specs.Buffers.{Buffers, After, wordsOf, readCall}
 use Rattle.rules.specs.Numbers.{eventOf, questionOf}
 use Rattle.puzzle.specs.Setup.{setupOf, InEvent}
 use Rattle.puzzle.proofs.Accepted.{accepted}
 use Rattle.puzzle.proofs.Fills.{length-stored}
+use Rattle.puzzle.proofs.Faults as faults
 use Rattle.puzzle.proofs.Fits.{event-in, event-out, frame-below, frames-differ, cr3-below, event-fits, question-fits}
 
 -- THE PROMISE OF `read` ALLOWS ONE RESULT AND ONE CONTENT OF EACH BUFFER, on every text and all buffers, refused or not
 pub read-unique : (text : List ℕ) (before : Buffers) (x y : After) → x ≡ readCall text before → y ≡ readCall text before → x ≡ y
 read-unique text before x y p q = p ∙ sym q
+
+-- A TEXT IS REFUSED WITH 10 OR 11
+pub ten-or-eleven : (text : List ℕ) {number line : ℕ} → puzzleOf text ≡ refused number line → (number ≡ 10) ⊎ (number ≡ 11)
+ten-or-eleven = faults.ten-or-eleven
 
 -- READING BACK WHAT WAS WRITTEN: the digits of a number have its value
 pub value-digits : (n : ℕ) → valueOf (digitsOf n) ≡ n

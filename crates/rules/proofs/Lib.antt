@@ -9,4 +9,6 @@ pub mod Answered
 pub mod Bounds
 pub mod Four
 pub mod Inert
+pub mod Before
+pub mod Numbers
 pub mod Theorems

@@ -6,7 +6,7 @@ use mathlib.Core.Logic.{_↔_}
 use mathlib.Core.Bool.{Bool, false}
 use mathlib.Core.List.{List}
 use Prim.Native.Nat.{ℕ, _+_, _≤_, _<_}
-use lib.ListN.{length}
+use lib.ListN.{length, take}
 use Rattle.paging.specs.declared.Walk.{Walk}
 use Rattle.paging.specs.Layout.{pageOf}
 use Rattle.paging.specs.Request.{requestOf}
@@ -16,6 +16,7 @@ use Rattle.rules.specs.declared.Question.{Question}
 use Rattle.rules.specs.declared.Outcome.{Outcome}
 use Rattle.rules.specs.History.{Setup, Fit}
 use Rattle.rules.specs.View.{View, viewOf}
+use Rattle.rules.specs.Numbers.{eventsOf, numbersOf}
 use Rattle.rules.specs.Held.{Held, Four}
 use Rattle.rules.specs.Outcome.{RightAt}
 use Rattle.rules.specs.Known.{AllSolved, starred, sides}
@@ -24,6 +25,8 @@ use Rattle.rules.proofs.Views as L
 use Rattle.rules.proofs.Steps as S
 use Rattle.rules.proofs.Four as F
 use Rattle.rules.proofs.Inert as I
+use Rattle.rules.proofs.Before as E
+use Rattle.rules.proofs.Numbers as N
 use Rattle.rules.proofs.Lists as R
 use Rattle.rules.proofs.Bounds as B
 use Rattle.rules.proofs.Answered as K
@@ -64,10 +67,18 @@ module _ (U : Setup) (es : List Event) (q : Question) (ok : Sound (U .tables)) w
   pub at-most : Fit U es → q .proc < U .processors → (n : ℕ) (os : List Outcome) → RightAt U es q n os → length os ≤ U .frames + 3
   at-most fit h n os r = B.right-length _ _ (view-coherent U es (q .proc) _ ok) (view-rooted U es (q .proc) _ fit h) n os r
 
+  -- the list at moment n is that of the first n events
+  pub list-before : (n : ℕ) (os : List Outcome) → RightAt U es q n os ↔ RightAt U (take n es) q n os
+  list-before = E.list-before U es q ok
+
 -- events that change nothing can be taken out or put in: `f` keeps all events that count
 pub without-inert : (f : Event → Bool) → ((e : Event) → f e ≡ false → counts e ≡ false) → (U : Setup) (es : List Event) → Sound (U .tables)
     → (q : Question) (os : List Outcome) → RightAt U es q (length es) os ↔ RightAt U (keep f es) q (length (keep f es)) os
 without-inert = I.fewer-right
+
+-- events that are written as numbers are read back
+pub events-back : (es : List Event) → eventsOf (numbersOf es) ≡ es
+events-back = N.events-back
 
 -- the known puzzles
 pub starred-solved : AllSolved starred

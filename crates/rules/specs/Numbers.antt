@@ -1,5 +1,5 @@
 -- Events and questions as the numbers that buffers and texts hold.
-use mathlib.Core.List.{List}
+use mathlib.Core.List.{List, [], _∷_}
 use Prim.Native.Nat.{ℕ, _+_, _*_, _/_}
 use lib.ListN.{length, getD}
 use Rattle.paging.specs.Numbers.{tab}
@@ -12,6 +12,11 @@ eventOf ns k = record { proc = getD ns (4 * k) 0; kind = getD ns (4 * k + 1) 0; 
 
 unfoldable pub eventsOf : List ℕ → List Event
 eventsOf ns = tab (length ns / 4) (eventOf ns)
+
+-- and back
+unfoldable pub numbersOf : List Event → List ℕ
+numbersOf [] = []
+numbersOf (e ∷ es) = e .proc ∷ e .kind ∷ e .a ∷ e .b ∷ numbersOf es
 
 -- "questions (processor, address, request …)"
 abbrev pub questionOf : List ℕ → ℕ → Question

@@ -1,7 +1,7 @@
 -- What holds of the calls, whatever the buffers: one answer and one state, and number 12 never.
 use mathlib.Core.Path.{_≡_, refl, sym, ap, _∙_}
-use mathlib.Core.Bool.{Bool, true, false, cond, not, _&&_}
-use mathlib.Core.Logic.{_⊎_, inl, inr}
+use mathlib.Core.Bool.{Bool, true, false, not, _&&_}
+use mathlib.Core.Logic.{inl, inr}
 use mathlib.Core.List.{List, [], _∷_, _++_}
 use Prim.Native.Nat.{ℕ, _+_, _-_, _*_, _<_}
 use native.Mathlib.Omega.{arith}
@@ -10,12 +10,13 @@ use lib.ListN.{length}
 use borrow.Author.Tests.{le-ltb, ne-eqb}
 use Rattle.paging.specs.Layout.{frameWords}
 use Rattle.rules.specs.declared.Event.{Event}
-use Rattle.rules.specs.Refusal.{Test, test, refusal}
+use Rattle.rules.specs.Refusal.{test, refusal}
 use Rattle.rules.specs.History.{eventTests}
+use Rattle.rules.proofs.Ranges.{below-twelve}
 use Rattle.tables.specs.State.{Machine, State}
 use Rattle.lawful.specs.Rules.{lawful}
 use Rattle.shadow.specs.declared.Answer.{Answer}
-use Rattle.shadow.specs.After.{Result, gives, after, afterSetup, afterStore, asSetup, rangesFit, lengthsFit, framesFit, tooFew, callRefusal}
+use Rattle.shadow.specs.After.{Result, gives, after, afterSetup, afterStore, asSetup, rangesFit, lengthsFit, framesFit, tooFew, callRefusal, setupRefusal}
 use Rattle.shadow.proofs.Sizing.{Ranged, ranged}
 
 -- ---- ANY TWO RESULTS THAT A PROMISE ALLOWS ARE EQUAL
@@ -29,21 +30,6 @@ pub setup-unique : (M : Machine) (map cr3s : List ℕ) (s : State) (r r′ : Ans
 setup-unique M map cr3s s r r′ t t′ p q = (ap (λ (x : Result). x .answer) (p ∙ sym q), ap (λ (x : Result). x .state) (p ∙ sym q))
 
 -- ---- NUMBER 12 IS NEVER MET
-
--- every test is numbered below 12, or is not met
-abbrev Small : List Test → Type 0
-Small [] = Unit {0}
-Small (t ∷ ts) = ((t .number < 12) ⊎ (t .met ≡ false)) × Small ts
-
-below-twelve : (ts : List Test) → Small ts → refusal ts < 12
-unfolding refusal
-below-twelve [] h = omega arith
-below-twelve (t ∷ ts) h = go (t .met) refl (h .0) (below-twelve ts (h .1))
-  where
-    go : (b : Bool) → t .met ≡ b → (t .number < 12) ⊎ (t .met ≡ false) → refusal ts < 12 → cond b (t .number) (refusal ts) < 12
-    go true q (inl l) r = l
-    go true q (inr n) r = let z : true ≡ false = sym q ∙ n in let z : _≡_ {A = ℕ} 0 1 = cc in absurd (omega arith)
-    go false q s r = r
 
 pub never-twelve : (M : Machine) (map : List ℕ) (s : State) (e : Event) → callRefusal M map s e < 12
 unfolding callRefusal
@@ -60,6 +46,10 @@ never-twelve M map s e = go (rangesFit M) refl
     go true q =
         below-twelve _
         (inl (omega arith), (inl (omega arith), (inl (omega arith), (inl (omega arith), (inl (omega arith), (inl (omega arith), (inl (omega arith), (inl (omega arith), (inl (omega arith), (inl (omega arith), (inr (few (ranged M q)), tt)))))))))))
+
+pub setup-below-twelve : (M : Machine) (map cr3s : List ℕ) (s : State) → setupRefusal M map cr3s s < 12
+unfolding setupRefusal
+setup-below-twelve M map cr3s s = below-twelve _ (inl (omega arith), (inl (omega arith), (inl (omega arith), tt)))
 
 -- ---- A REFUSAL CHANGES NOTHING, AND A STORE BREAKS NO STATE RULE
 
