@@ -16,7 +16,7 @@ use Rattle.rules.specs.declared.Question.{Question}
 use Rattle.rules.specs.declared.Outcome.{Outcome}
 use Rattle.rules.specs.History.{Setup, Fit}
 use Rattle.rules.specs.View.{View, viewOf}
-use Rattle.rules.specs.Held.{Held, Four}
+use Rattle.rules.specs.Held.{Held, Four, FourPartial}
 use Rattle.rules.specs.Outcome.{RightAt}
 use Rattle.rules.specs.Known.{AllSolved, starred, sides}
 use Rattle.rules.specs.Counts.{keep}
@@ -42,6 +42,10 @@ module _ (seen : View) {levels frames : ℕ} (law : Coherent seen levels frames)
   -- "there are moments t4 ≤ t3 ≤ t2 ≤ t1 …": the sentence written out is the rule, of complete walks of four levels
   pub four : levels ≡ 4 → (n : ℕ) (w : Walk) → Four seen n w ↔ ((w .level ≡ 0) × Held seen n w)
   four = F.four seen law
+
+  -- "a partial walk is held if its reads lie in such a stretch that reaches the end": at each of the four levels, level 4 included
+  pub four-partial : levels ≡ 4 → (n : ℕ) (w : Walk) → FourPartial seen n w ↔ ((0 < w .level) × Held seen n w)
+  four-partial = F.four-partial seen law
 
   -- the rule by moments is the rule step by step: begin, extend, stay
   pub held-is-kept : (n : ℕ) (w : Walk) → Held seen n w ↔ Kept seen n w
