@@ -8,7 +8,7 @@ use mathlib.Core.List.{List}
 use Prim.Native.Nat.{ℕ, _+_, _≤_, _<_}
 use lib.ListN.{length}
 use Rattle.paging.specs.declared.Walk.{Walk}
-use Rattle.paging.specs.Layout.{pageOf}
+use Rattle.paging.specs.Layout.{tables64, pageOf}
 use Rattle.paging.specs.Request.{requestOf}
 use Rattle.paging.specs.Sound.{Sound}
 use Rattle.rules.specs.declared.Event.{Event}
@@ -74,8 +74,8 @@ pub without-inert : (f : Event → Bool) → ((e : Event) → f e ≡ false → 
 without-inert = I.fewer-right
 
 -- the known puzzles
-pub starred-solved : AllSolved starred
+pub starred-solved : AllSolved tables64 starred
 starred-solved = K.starred-solved
 
-pub sides-solved : AllSolved sides
+pub sides-solved : AllSolved tables64 sides
 sides-solved = K.sides-solved
