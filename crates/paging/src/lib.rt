@@ -288,10 +288,11 @@ impl Walk {
         if level == 0 {
             return Step::Complete;
         }
-        if !present(e) {
+        let here = present(e);
+        let f = frame_of(e);
+        if !here {
             return Step::Absent;
         }
-        let f = frame_of(e);
         if f >= frames {
             return Step::Beyond;
         }

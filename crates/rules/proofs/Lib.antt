@@ -6,6 +6,7 @@ pub mod Steps
 pub mod Walks
 pub mod Lists
 pub mod Answered
+pub mod Narrow
 pub mod Bounds
 pub mod Four
 pub mod Inert

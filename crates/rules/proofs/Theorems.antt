@@ -8,7 +8,7 @@ use mathlib.Core.List.{List}
 use Prim.Native.Nat.{ℕ, _+_, _≤_, _<_}
 use lib.ListN.{length, take}
 use Rattle.paging.specs.declared.Walk.{Walk}
-use Rattle.paging.specs.Layout.{pageOf}
+use Rattle.paging.specs.Layout.{pageOf, tables64}
 use Rattle.paging.specs.Request.{requestOf}
 use Rattle.paging.specs.Sound.{Sound}
 use Rattle.rules.specs.declared.Event.{Event}
@@ -17,10 +17,12 @@ use Rattle.rules.specs.declared.Outcome.{Outcome}
 use Rattle.rules.specs.History.{Setup, Fit}
 use Rattle.rules.specs.View.{View, viewOf}
 use Rattle.rules.specs.Numbers.{eventsOf, numbersOf}
-use Rattle.rules.specs.Held.{Held, Four}
+use Rattle.rules.specs.Held.{Held, Four, FourPartial}
 use Rattle.rules.specs.Outcome.{RightAt}
 use Rattle.rules.specs.Known.{AllSolved, starred, sides}
-use Rattle.rules.specs.Counts.{keep}
+use Rattle.rules.specs.Counts.{keep, counts}
+use Rattle.rules.specs.Coherent.{Coherent, Rooted}
+use Rattle.rules.specs.Kept.{Kept}
 use Rattle.rules.proofs.Views as L
 use Rattle.rules.proofs.Steps as S
 use Rattle.rules.proofs.Four as F
@@ -30,9 +32,6 @@ use Rattle.rules.proofs.Numbers as N
 use Rattle.rules.proofs.Lists as R
 use Rattle.rules.proofs.Bounds as B
 use Rattle.rules.proofs.Answered as K
-use Rattle.rules.specs.Coherent.{Coherent, Rooted}
-use Rattle.rules.specs.Kept.{Kept}
-use Rattle.rules.specs.Counts.{counts}
 
 module _ (U : Setup) (es : List Event) (p v : ℕ) where
   pub view-coherent : Sound (U .tables) → Coherent (viewOf U es p v) (U .tables .levels) (U .frames)
@@ -45,6 +44,10 @@ module _ (seen : View) {levels frames : ℕ} (law : Coherent seen levels frames)
   -- "there are moments t4 ≤ t3 ≤ t2 ≤ t1 …": the sentence written out is the rule, of complete walks of four levels
   pub four : levels ≡ 4 → (n : ℕ) (w : Walk) → Four seen n w ↔ ((w .level ≡ 0) × Held seen n w)
   four = F.four seen law
+
+  -- "a partial walk is held if its reads lie in such a stretch that reaches the end": at each of the four levels, level 4 included
+  pub four-partial : levels ≡ 4 → (n : ℕ) (w : Walk) → FourPartial seen n w ↔ ((0 < w .level) × Held seen n w)
+  four-partial = F.four-partial seen law
 
   -- the rule by moments is the rule step by step: begin, extend, stay
   pub held-is-kept : (n : ℕ) (w : Walk) → Held seen n w ↔ Kept seen n w
@@ -81,8 +84,8 @@ pub events-back : (es : List Event) → eventsOf (numbersOf es) ≡ es
 events-back = N.events-back
 
 -- the known puzzles
-pub starred-solved : AllSolved starred
+pub starred-solved : AllSolved tables64 starred
 starred-solved = K.starred-solved
 
-pub sides-solved : AllSolved sides
+pub sides-solved : AllSolved tables64 sides
 sides-solved = K.sides-solved

@@ -35,3 +35,16 @@ module _ (seen : View) where
     pub entry₁ : seen .steps t₁ w₁ ≡ On w
     pub quiet : Quiet (seen .endsPartial) t₄ t₁
     pub kept : Quiet (seen .endsComplete) t₁ n
+
+  -- And for partial walks, by the level at which they stand: "its reads lie in such a stretch that reaches the end". At level 4
+  -- nothing was read: it stands on CR3 as it is at the end. Theorems.four-partial shows that a partial walk is held if and
+  -- only if this holds.
+  pub data FourPartial (n : ℕ) (w : Walk) : Type 0 where
+    level₄ : w ≡ seen .begins n → FourPartial n w
+    level₃ : {t₄ : ℕ} → t₄ ≤ n → seen .steps t₄ (seen .begins t₄) ≡ On w → Quiet (seen .endsPartial) t₄ n → FourPartial n w
+    level₂ : {t₄ t₃ : ℕ} {w₃ : Walk} → (t₄ ≤ t₃) × (t₃ ≤ n)
+        → seen .steps t₄ (seen .begins t₄) ≡ On w₃ → seen .steps t₃ w₃ ≡ On w
+        → Quiet (seen .endsPartial) t₄ n → FourPartial n w
+    level₁ : {t₄ t₃ t₂ : ℕ} {w₃ w₂ : Walk} → (t₄ ≤ t₃) × (t₃ ≤ t₂) × (t₂ ≤ n)
+        → seen .steps t₄ (seen .begins t₄) ≡ On w₃ → seen .steps t₃ w₃ ≡ On w₂ → seen .steps t₂ w₂ ≡ On w
+        → Quiet (seen .endsPartial) t₄ n → FourPartial n w

@@ -3,7 +3,7 @@ use mathlib.Core.List.{List, [], _∷_, _++_}
 use Prim.Native.Nat.{ℕ, _+_, _-_, _*_, _^_}
 use lib.ListN.{length, set, replicate}
 use Rattle.paging.specs.Frame.{guest}
-use Rattle.paging.specs.Layout.{tables64, frameWords}
+use Rattle.paging.specs.Layout.{Layout, frameWords}
 use Rattle.rules.specs.declared.Event.{Event}
 use Rattle.rules.specs.declared.Question.{Question}
 use Rattle.rules.specs.declared.Outcome.{Outcome}
@@ -27,31 +27,32 @@ unfoldable pub filled : List Word → List ℕ → List ℕ
 filled [] ws = ws
 filled (x ∷ xs) ws = filled xs (set ws (x .word) (x .value))
 
--- six frames
-abbrev pub knownSetup : Puzzle → Setup
-knownSetup z = record {
-  tables = tables64;
-  frames = 6;
-  processors = length (z .cr3s);
-  words = filled (z .words) (replicate (frameWords * 6) 0);
-  cr3s = z .cr3s;
-}
+-- tables of one layout, six frames
+module _ (Y : Layout) where
+  abbrev pub knownSetup : Puzzle → Setup
+  knownSetup z = record {
+    tables = Y;
+    frames = 6;
+    processors = length (z .cr3s);
+    words = filled (z .words) (replicate (frameWords * 6) 0);
+    cr3s = z .cr3s;
+  }
 
--- A PUZZLE IS SOLVED: its outcomes are the right list of its question after all its events
-abbrev pub Solved : Puzzle → Type 0
-Solved z = RightAt (knownSetup z) (z .events) (z .question) (length (z .events)) (z .outcomes)
+  -- A PUZZLE IS SOLVED: its outcomes are the right list of its question after all its events
+  abbrev pub Solved : Puzzle → Type 0
+  Solved z = RightAt (knownSetup z) (z .events) (z .question) (length (z .events)) (z .outcomes)
 
-abbrev pub AllSolved : List Puzzle → Type 0
-AllSolved [] = Unit {0}
-AllSolved (z ∷ zs) = Solved z × AllSolved zs
+  abbrev pub AllSolved : List Puzzle → Type 0
+  AllSolved [] = Unit {0}
+  AllSolved (z ∷ zs) = Solved z × AllSolved zs
 
 -- ---- how the tables are written
 
-abbrev _is_ : ℕ → ℕ → Word
+abbrev pub _is_ : ℕ → ℕ → Word
 _is_ w v = record { word = w; value = v }
 
 infix 68 _is_
-abbrev store : ℕ → ℕ → ℕ → Event
+abbrev pub store : ℕ → ℕ → ℕ → Event
 store p a b = record { proc = p; kind = 1; a = a; b = b }
 
 abbrev invlpg : ℕ → ℕ → Event
@@ -60,13 +61,13 @@ invlpg p a = record { proc = p; kind = 2; a = a; b = 0 }
 abbrev cr3 : ℕ → ℕ → Event
 cr3 p f = record { proc = p; kind = 3; a = f; b = 0 }
 
-abbrev ask : ℕ → ℕ → ℕ → Question
+abbrev pub ask : ℕ → ℕ → ℕ → Question
 ask p a r = record { proc = p; addr = a; request = r }
 
-abbrev A : ℕ → Outcome
+abbrev pub A : ℕ → Outcome
 A f = Address (guest f)
 
-abbrev F : ℕ → Outcome
+abbrev pub F : ℕ → Outcome
 F c = Fault c
 
 -- "Start as above, no events, question 0 8 0, unless said."

@@ -18,14 +18,14 @@ returns c = let a = c .before .args in sym (step-complete tables64 (a .frames) (
 
 returns-2 : tie.Need-returns-2
 returns-2 c =
-    let a = c .before .before .before .args in
-    sym (step-absent tables64 (a .frames) (a .self) (a .e) (omega arith) (sym (c .before .present .ensures) ∙ not-true _ (c .if2 .taken)))
+    let a = c .before .before .before .before .args in
+    sym (step-absent tables64 (a .frames) (a .self) (a .e) (omega arith) (sym (c .before .before .present .ensures) ∙ not-true _ (c .if2 .taken)))
 
 returns-3 : tie.Need-returns-3
 returns-3 c =
     let a = c .before .before .before .before .before .args in
-    let here = sym (c .before .before .before .present .ensures) ∙ not-false _ (c .before .before .if2 .left) in
-    let f = c .before .frame-of .ensures in
+    let here = sym (c .before .before .before .present .ensures) ∙ not-false _ (c .before .if2 .left) in
+    let f = c .before .before .frame-of .ensures in
     sym (step-beyond tables64 (a .frames) (a .self) (a .e) (omega arith) here (subst (λ (x : ℕ). a .frames ≤ x) f (c .if3 .taken)))
 
 down-to-requires : tie.Need-down-to-requires
@@ -34,8 +34,8 @@ down-to-requires c κs = omega (arith, ap (λ (w : Walk). w .level) (c .narrow .
 returns-4 : tie.Need-returns-4
 returns-4 c =
     let a = c .before .before .before .before .before .before .before .args in
-    let here = sym (c .before .before .before .before .before .present .ensures) ∙ not-false _ (c .before .before .before .before .if2 .left) in
-    let f = c .before .before .before .frame-of .ensures in
+    let here = sym (c .before .before .before .before .before .present .ensures) ∙ not-false _ (c .before .before .before .if2 .left) in
+    let f = c .before .before .before .before .frame-of .ensures in
     ap On (c .down-to .ensures ∙ ap₂ (λ (w : Walk) (x : ℕ). downTo w (guest x)) (c .before .narrow .ensures) f)
     ∙ sym (step-on tables64 (a .frames) (a .self) (a .e) (omega arith) here (subst (λ (x : ℕ). x < a .frames) f (c .before .before .if3 .left)))
 
@@ -45,8 +45,8 @@ step-spec =
     (tie.spec
     returns
     (λ c κs. search needs)
-    returns-2
     (λ c κs. search needs)
+    returns-2
     returns-3
     (λ c κs. search needs)
     down-to-requires
