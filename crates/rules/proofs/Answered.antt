@@ -8,7 +8,7 @@ use Rattle.paging.specs.Request.{requestOf, enough}
 use Rattle.paging.proofs.Layouts.{tables64-sound}
 use Rattle.rules.specs.declared.Outcome.{Outcome}
 use Rattle.rules.specs.History.{wordsAt, cr3At}
-use Rattle.rules.specs.View.{viewOf}
+use Rattle.rules.specs.View.{viewOf, never}
 use Rattle.rules.specs.Known.{Puzzle, filled, knownSetup, Solved, AllSolved, starred, sides}
 use Rattle.rules.specs.Counts.{keep}
 use Rattle.rules.proofs.Views.{coherent}
@@ -18,15 +18,15 @@ use Rattle.rules.proofs.Lists.{insert, insertAll, outcomes, answers, an
 -- the list of a puzzle, computed
 unfoldable computed : Puzzle → List Outcome
 computed z =
-    answers (viewOf (knownSetup z) (z .events) (z .question .proc) (pageOf tables64 (z .question .addr))) 4
+    answers (viewOf (knownSetup z) (z .events) (z .question .proc) (pageOf tables64 (z .question .addr)) never) 4
     (requestOf tables64 (z .question .request)) (length (z .events))
 
 solved : (z : Puzzle) → computed z ≡ z .outcomes → Solved z
 unfolding computed
 solved z e =
     rw (← e)
-    (answers-right (viewOf (knownSetup z) (z .events) (z .question .proc) (pageOf tables64 (z .question .addr))) 4
-    (requestOf tables64 (z .question .request)) (coherent (knownSetup z) (z .events) (z .question .proc) _ tables64-sound) (length (z .events)))
+    (answers-right (viewOf (knownSetup z) (z .events) (z .question .proc) (pageOf tables64 (z .question .addr)) never) 4
+    (requestOf tables64 (z .question .request)) (coherent (knownSetup z) (z .events) (z .question .proc) _ never tables64-sound) (length (z .events)))
 
 abbrev AllComputed : List Puzzle → Type 0
 AllComputed [] = Unit {0}
