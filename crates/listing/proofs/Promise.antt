@@ -13,7 +13,7 @@ use Rattle.paging.specs.Request.{requestOf}
 use Rattle.paging.proofs.Layouts.{tables64-sound}
 use Rattle.rules.specs.declared.Outcome.{Outcome}
 use Rattle.rules.specs.History.{wordsAt}
-use Rattle.rules.specs.View.{View, viewOf}
+use Rattle.rules.specs.View.{View, viewOf, never}
 use Rattle.rules.specs.Held.{Held}
 use Rattle.rules.proofs.Steps.{held-is-kept}
 use Rattle.rules.proofs.Theorems.{one-list, some-outcome}
@@ -66,7 +66,7 @@ module _ (q : Asked) (b : Lent) (ok : Accepted q b) where
   pub lists : (count : ℕ) (words work outcomes : List ℕ)
       → Answers G (b .words) (b .work) (b .outcomes) (q .events) (q .question) first count words work outcomes → Lists q b (lent words work outcomes) count
   lists count words work outcomes a =
-      let seen = viewOf (setupAsked q b) (eventsOf (q .events)) (q .question .proc) page in
+      let seen = viewOf (setupAsked q b) (eventsOf (q .events)) (q .question .proc) page never in
       let at = wordsAt (setupAsked q b) (eventsOf (q .events)) in
       let t : Told tables64 seen G page at = told G (length (q .cr3s)) (b .words) (q .cr3s) (eventsOf (q .events)) (q .question .proc) page (fit q b ok) (ok .proc) in
       let new-words : words ≡ at N = a .words-are ∙ final .words-are in

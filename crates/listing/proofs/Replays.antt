@@ -15,13 +15,12 @@ use Rattle.paging.specs.Frame.{guest}
 use Rattle.paging.specs.Layout.{tables64, pageOf}
 use Rattle.paging.specs.Walk.{start}
 use Rattle.paging.proofs.Layouts.{tables64-sound}
-use Rattle.paging.proofs.Tests.{false-T}
 use Rattle.rules.specs.declared.Event.{Event}
 use Rattle.rules.specs.History.{Setup, setup64, Fit, eventAt, wordsAt, cr3At}
-use Rattle.rules.specs.View.{View, viewOf, endsPartialOf, endsCompleteOf}
+use Rattle.rules.specs.View.{View, viewOf, never, endsPartialOf, endsCompleteOf}
 use Rattle.rules.proofs.Views.{coherent, rooted}
 use Rattle.rules.specs.Kept.{ends, byLevel}
-use Rattle.rules.proofs.Steps.{never}
+use Rattle.rules.proofs.Steps.{neither}
 use Rattle.held.specs.Work.{cell, workBytes, HasByte}
 use Rattle.held.specs.FollowCode.{stepIn, rereadWord, restarted}
 use Rattle.held.proofs.Cells.{complete-first}
@@ -71,14 +70,14 @@ module _ (G P : ℕ) (ws cs : List ℕ) (es : List Event) (p page : ℕ) where
   U = setup64 G P ws cs
 
   abbrev seen : View
-  seen = viewOf U es p page
+  seen = viewOf U es p page never
 
   read-is : (n : ℕ) (w : Walk) → seen .steps n w ≡ stepIn tables64 G page (wordsAt U es n) w
   unfolding viewOf stepIn
   read-is n w = refl
 
   pub told : Fit U es → p < P → Told tables64 seen G page (wordsAt U es)
-  told fit h = record { reads = read-is; sound = tables64-sound; few = omega arith; law = coherent U es p page tables64-sound; root = rooted U es p page fit h }
+  told fit h = record { reads = read-is; sound = tables64-sound; few = omega arith; law = coherent U es p page never tables64-sound; root = rooted U es p page never fit h }
 
   -- after n events
   pub record Follows (work₀ : List ℕ) (n : ℕ) (s : Replay) : Type 0 where
@@ -94,7 +93,7 @@ module _ (G P : ℕ) (ws cs : List ℕ) (es : List Event) (p page : ℕ) where
 
     cr3-in : (n : ℕ) → cr3At U es p n .0 < G
     unfolding viewOf
-    cr3-in n = rooted U es p page fit hp n
+    cr3-in n = rooted U es p page never fit hp n
 
     begins-is : (n : ℕ) (g : Guest) → cr3At U es p n ≡ g → seen .begins n ≡ start tables64 g
     unfolding viewOf
@@ -169,7 +168,7 @@ module _ (G P : ℕ) (ws cs : List ℕ) (es : List Event) (p page : ℕ) where
 
       quiet : Quiet p page e → (w : Walk) → T (not (ends seen w n))
       unfolding viewOf
-      quiet q w = never _ _ (w .level) (false-T _ (q .0)) (false-T _ (q .1))
+      quiet q w = neither _ _ (w .level) (q .0) (q .1)
 
       after-nothing : wordsAt U es (suc n) ≡ wordsAt U es n → cr3At U es p (suc n) ≡ cr3At U es p n → Quiet p page e → Follows work₀ (suc n) s
       after-nothing w c q = record {

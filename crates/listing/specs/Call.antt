@@ -13,7 +13,7 @@ use Rattle.rules.specs.declared.Outcome.{Outcome}
 use Rattle.rules.specs.declared.Outcome.the-variants.{Address, Fault}
 use Rattle.rules.specs.Refusal.{test, refusal}
 use Rattle.rules.specs.History.{Setup, setup64, eventRefusal, wordsAt}
-use Rattle.rules.specs.View.{viewOf}
+use Rattle.rules.specs.View.{viewOf, never}
 use Rattle.rules.specs.Numbers.{eventOf, eventsOf}
 use Rattle.rules.specs.Held.{Held}
 use Rattle.rules.specs.Outcome.{RightAt, questionRefusal}
@@ -101,7 +101,7 @@ pub record Lists (q : Asked) (before after : Lent) (count : ℕ) : Type 0 where
   pub outcomes : after .outcomes ≡ pairs list ++ drop (2 * length list) (before .outcomes)
   pub words : after .words ≡ wordsAt (setupAsked q before) (eventsOf (q .events)) (length (q .events) / 4)
   pub work : WorkTells (length (q .map))
-      (Held (viewOf (setupAsked q before) (eventsOf (q .events)) (q .question .proc) (pageOf tables64 (q .question .addr))) (length (q .events) / 4))
+      (Held (viewOf (setupAsked q before) (eventsOf (q .events)) (q .question .proc) (pageOf tables64 (q .question .addr)) never) (length (q .events) / 4))
       (before .work) (after .work)
 
 -- THE PROMISE OF THE LIST CALL

@@ -1,6 +1,7 @@
 -- An access carries the invariant: what it fills is the guest's path as it is now.
 use mathlib.Core.Path.{_≡_, refl, sym, ap, _∙_}
 use mathlib.Core.List.{List}
+use mathlib.Core.Bool.{false}
 use Prim.Native.Nat.{ℕ, suc, _*_, _^_, _≤_, _<_}
 use native.Mathlib.Decide.{ℕ-discrete}
 use native.Mathlib.Omega.{arith}
@@ -32,7 +33,7 @@ use Rattle.keeps.proofs.Accesses.{walked, written, walk-same, written-same, wri
 use Rattle.keeps.proofs.Again.{end-covers, end-frame, end-inside}
 use Rattle.promise.specs.Demand.{Fresh}
 use Rattle.promise.proofs.GuestWalks.{Ends, whole, absent, beyond, walks}
-use Rattle.promise.proofs.Holds.{U, seen, Holds, Pathed, Slotted, stay-path, stay-slot, stay-backed, same-path, same-slot, no-slot, quiet-unended, cr3-kept}
+use Rattle.promise.proofs.Holds.{U, drops, seen, ends, Holds, Pathed, Slotted, stay-path, stay-slot, stay-backed, same-path, same-slot, no-slot, quiet-unended, cr3-kept}
 use Rattle.promise.proofs.Carries.{After, sized, fits, hp, still, kept-words}
 
 module _ (F : Fresh) (es : List Event) (k : ℕ) (s : State) (h : Holds F es k s) where
@@ -52,7 +53,7 @@ module _ (F : Fresh) (es : List Event) (k : ℕ) (s : State) (h : Holds F es k s
     rules = wordsAt (U F es) es k
 
     pub law : Coherent (seen F es p v) (M .tables .levels) (M .frames)
-    law = view-coherent (U F es) es p v (h .laid .sound)
+    law = view-coherent (U F es) es p v (drops F es p v) (h .laid .sound)
 
     pub reads : (w : Walk) → seen F es p v .steps k w ≡ step (M .tables) (M .frames) w (get (M .tables) rules (w .frame .0) (index (M .tables) v (w .level)))
     unfolding viewOf
@@ -101,11 +102,12 @@ module _ (F : Fresh) (es : List Event) (k : ℕ) (s : State) (h : Holds F es k s
     pub spare : M .tables .levels ≤ M .share
     spare = accepted-ranged M map s e ok .share .0
 
-    two : e .kind ≡ 2 → ⊥
-    two x = omega arith
-
     three : e .kind ≡ 3 → ⊥
     three x = omega arith
+
+    -- AN ACCESS ENDS NOTHING
+    unended : (r u : ℕ) → ends F es r u k ≡ false
+    unended r u = quiet-unended F es r u k (λ x. omega arith) three
 
     module _ (last : Guest) (w : Walk) (q : walked M map p (e .a) (e .b) s .ended ≡ Whole last w) where
       abbrev f : State
@@ -124,7 +126,7 @@ module _ (F : Fresh) (es : List Event) (k : ℕ) (s : State) (h : Holds F es k s
           mapped = end-frame M map p (e .a) (e .b) s room spare maps own (h .right) last w q;
           backed =
               let held = walk-held p own (e .a) (e .b) last w q in
-              stay-backed F es p page k (quiet-unended F es p page k two three) (record {
+              stay-backed F es p page k (unended p page) (record {
                 walk = w;
                 kept = held .0;
                 complete = held .1;
@@ -138,13 +140,13 @@ module _ (F : Fresh) (es : List Event) (k : ℕ) (s : State) (h : Holds F es k s
       other-path r hr u hu ne = record {
         full = λ here.
             same-path F es f (done .built .old .full r hr u hu ne here)
-            (stay-path F es (quiet-unended F es r u k two three) (h .paths r hr u hu)) .full here;
+            (stay-path F es (unended r u) (h .paths r hr u hu)) .full here;
       }
 
       same : (r : ℕ) → r < M .processors → (j : ℕ) → j < slotCount → SameSlot (s .slots) (f .slots) r j → Slotted F es (suc k) f r j
       same r hr j hj eq =
           same-slot F es f eq
-          (stay-slot F es (quiet-unended F es r (pageIn (s .slots) r j) k two three) (h .slots r hr j hj))
+          (stay-slot F es (unended r (pageIn (s .slots) r j)) (h .slots r hr j hj))
 
       filled : After F es k s h ok f
       filled right size = record {
@@ -173,10 +175,10 @@ module _ (F : Fresh) (es : List Event) (k : ℕ) (s : State) (h : Holds F es k s
               (by-cases (done .own j hj) (λ x. no-slot F es (λ m. omega (arith, x .mark))) (λ x. same p own j hj (x .0)))
 
     way : {out : Result} → Way M map p (e .a) (e .b) s out → After F es k s h ok (out .state)
-    way (slot j hj v o) = rw o (still F es k s h ok (λ x. omega arith) two three (s .words) (same-refl (M .tables) (s .words)))
-    way (shadow x v o) = rw o (still F es k s h ok (λ x. omega arith) two three (s .words) (same-refl (M .tables) (s .words)))
-    way (fault base x o) = rw o (still F es k s h ok (λ x. omega arith) two three (walked M map p (e .a) (e .b) s .words) (walk-same M map p (e .a) (e .b) s (h .laid .sound)))
-    way (lacks last w x v o) = rw o (still F es k s h ok (λ x. omega arith) two three (walked M map p (e .a) (e .b) s .words) (walk-same M map p (e .a) (e .b) s (h .laid .sound)))
+    way (slot j hj v o) = rw o (still F es k s h ok (λ x. omega arith) unended three (s .words) (same-refl (M .tables) (s .words)))
+    way (shadow x v o) = rw o (still F es k s h ok (λ x. omega arith) unended three (s .words) (same-refl (M .tables) (s .words)))
+    way (fault base x o) = rw o (still F es k s h ok (λ x. omega arith) unended three (walked M map p (e .a) (e .b) s .words) (walk-same M map p (e .a) (e .b) s (h .laid .sound)))
+    way (lacks last w x v o) = rw o (still F es k s h ok (λ x. omega arith) unended three (walked M map p (e .a) (e .b) s .words) (walk-same M map p (e .a) (e .b) s (h .laid .sound)))
     way (again last w x v o) = rw o (filled last w x)
 
     pub accessed : After F es k s h ok (afterAccess M map p (e .a) (e .b) s .state)

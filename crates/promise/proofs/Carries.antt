@@ -54,11 +54,11 @@ module _ (F : Fresh) (es : List Event) (k : ℕ) (s : State) (h : Holds F es k s
 
   -- ---- events that leave the tables alone
 
-  module _ (s′ : State) (tables : s′ .shadow ≡ s .shadow) (two : e .kind ≡ 2 → ⊥) (three : e .kind ≡ 3 → ⊥) where
+  module _ (s′ : State) (tables : s′ .shadow ≡ s .shadow) (unended : (q v : ℕ) → ends F es q v k ≡ false) (three : e .kind ≡ 3 → ⊥) where
     quiet-slot : (q j : ℕ) → q < M .processors → j < slotCount → SameSlot (s .slots) (s′ .slots) q j → Slotted F es (suc k) s′ q j
     quiet-slot q j hq hj same =
         same-slot F es s′ same
-        (stay-slot F es (quiet-unended F es q (pageIn (s .slots) q j) k two three) (h .slots q hq j hj))
+        (stay-slot F es (unended q (pageIn (s .slots) q j)) (h .slots q hq j hj))
 
     quiet : Same (M .tables) (s′ .words) (wordsAt (U F es) es (suc k))
         → ((q : ℕ) → q < M .processors → (j : ℕ) → j < slotCount → Slotted F es (suc k) s′ q j) → After s′
@@ -71,7 +71,7 @@ module _ (F : Fresh) (es : List Event) (k : ℕ) (s : State) (h : Holds F es k s
       paths = λ q hq v hv.
           same-path F es s′
           (ap (λ (x : Shadow). pathTo M (x .pool) q v 1) tables, ap (λ (x : Shadow). nextEntry M (x .pool) v (pathTo M (x .pool) q v 1)) tables)
-          (stay-path F es (quiet-unended F es q v k two three) (h .paths q hq v hv));
+          (stay-path F es (unended q v) (h .paths q hq v hv));
       slots = slots;
     }
 
@@ -82,27 +82,30 @@ module _ (F : Fresh) (es : List Event) (k : ℕ) (s : State) (h : Holds F es k s
 
   pub stored : e .kind ≡ 1 → After (afterStore (e .a) (e .b) s .state)
   stored q =
-      quiet (afterStore (e .a) (e .b) s .state) refl (λ x. omega arith) (λ x. omega arith)
+      quiet (afterStore (e .a) (e .b) s .state) refl unended (λ x. omega arith)
       (rw (words-store F es k q) (same-store (M .tables) (e .a) (e .b) (h .words)))
-      (λ r hr j hj. quiet-slot (afterStore (e .a) (e .b) s .state) refl (λ x. omega arith) (λ x. omega arith) r j hr hj (same-self (s .slots) r j))
+      (λ r hr j hj. quiet-slot (afterStore (e .a) (e .b) s .state) refl unended (λ x. omega arith) r j hr hj (same-self (s .slots) r j))
+    where
+      unended : (r v : ℕ) → ends F es r v k ≡ false
+      unended r v = quiet-unended F es r v k (λ x. omega arith) (λ x. omega arith)
 
   -- nothing is changed but A and D
-  pub still : (e .kind ≡ 1 → ⊥) → (e .kind ≡ 2 → ⊥) → (e .kind ≡ 3 → ⊥) → (words : List ℕ) → Same (M .tables) words (s .words) → After (stateOf words (s .shadow) (s .slots))
-  still one two three words same =
-      quiet (stateOf words (s .shadow) (s .slots)) refl two three (kept-words one same)
-      (λ q hq j hj. quiet-slot (stateOf words (s .shadow) (s .slots)) refl two three q j hq hj (same-self (s .slots) q j))
+  pub still : (e .kind ≡ 1 → ⊥) → ((q v : ℕ) → ends F es q v k ≡ false) → (e .kind ≡ 3 → ⊥) → (words : List ℕ) → Same (M .tables) words (s .words) → After (stateOf words (s .shadow) (s .slots))
+  still one unended three words same =
+      quiet (stateOf words (s .shadow) (s .slots)) refl unended three (kept-words one same)
+      (λ q hq j hj. quiet-slot (stateOf words (s .shadow) (s .slots)) refl unended three q j hq hj (same-self (s .slots) q j))
 
   -- one slot of p is changed, and what it holds is backed
-  pub one-slot : (e .kind ≡ 1 → ⊥) → (e .kind ≡ 2 → ⊥) → (e .kind ≡ 3 → ⊥) → (s′ : State) → s′ .shadow ≡ s .shadow → s′ .words ≡ s .words → (i : ℕ)
+  pub one-slot : (e .kind ≡ 1 → ⊥) → ((q v : ℕ) → ends F es q v k ≡ false) → (e .kind ≡ 3 → ⊥) → (s′ : State) → s′ .shadow ≡ s .shadow → s′ .words ≡ s .words → (i : ℕ)
       → ((q j : ℕ) → j < slotCount → (q ≡ p → j ≡ i → ⊥) → SameSlot (s .slots) (s′ .slots) q j) → Slotted F es (suc k) s′ p i → After s′
-  one-slot one two three s′ tables words i same new =
-      quiet s′ tables two three (kept-words one (subst (λ (l : List ℕ). Same (M .tables) (s′ .words) l) words (same-refl (M .tables) (s′ .words))))
+  one-slot one unended three s′ tables words i same new =
+      quiet s′ tables unended three (kept-words one (subst (λ (l : List ℕ). Same (M .tables) (s′ .words) l) words (same-refl (M .tables) (s′ .words))))
       (λ q hq j hj. go q hq j hj (ℕ-discrete q p) (ℕ-discrete j i))
     where
       go : (q : ℕ) → q < M .processors → (j : ℕ) → j < slotCount → Dec (q ≡ p) → Dec (j ≡ i) → Slotted F es (suc k) s′ q j
       go q hq j hj (yes a) (yes b) = rw (a, b) new
-      go q hq j hj (no a) d = quiet-slot s′ tables two three q j hq hj (same q j hj (λ x y. a x))
-      go q hq j hj (yes a) (no b) = quiet-slot s′ tables two three q j hq hj (same q j hj (λ x y. b y))
+      go q hq j hj (no a) d = quiet-slot s′ tables unended three q j hq hj (same q j hj (λ x y. a x))
+      go q hq j hj (yes a) (no b) = quiet-slot s′ tables unended three q j hq hj (same q j hj (λ x y. b y))
 
   pub here : Room (s .slots) p
   here = room M sized map fits (s .slots) (h .right .triples) p hp
@@ -111,14 +114,14 @@ module _ (F : Fresh) (es : List Event) (k : ℕ) (s : State) (h : Holds F es k s
   unfolding afterBegin
   begun q hb =
       let v = pageOf (M .tables) (e .a) in
-      one-slot (λ x. omega arith) (λ x. omega arith) (λ x. omega arith) (afterBegin M p (e .a) (e .b) s .state) refl refl (e .b)
+      one-slot (λ x. omega arith) (λ r v. quiet-unended F es r v k (λ x. omega arith) (λ x. omega arith)) (λ x. omega arith) (afterBegin M p (e .a) (e .b) s .state) refl refl (e .b)
       (λ r j hj ne. with-other p (e .b) (M .tables .levels + 1) v (rootOf M p) 7 (s .slots) r j hb hj ne)
       (no-slot F es (λ x. omega (arith, h .laid .upper, with-mark p (e .b) (M .tables .levels + 1) v (rootOf M p) 7 (s .slots) hb here)))
 
   pub lost : e .kind ≡ 7 → e .a < 8 → After (afterDrop p (e .a) s .state)
   unfolding afterDrop
   lost q ha =
-      one-slot (λ x. omega arith) (λ x. omega arith) (λ x. omega arith) (afterDrop p (e .a) s .state) refl refl (e .a)
+      one-slot (λ x. omega arith) (λ r v. quiet-unended F es r v k (λ x. omega arith) (λ x. omega arith)) (λ x. omega arith) (afterDrop p (e .a) s .state) refl refl (e .a)
       (λ r j hj ne. with-other p (e .a) 0 0 0 0 (s .slots) r j ha hj ne)
       (no-slot F es (λ x. omega (arith, with-mark p (e .a) 0 0 0 0 (s .slots) ha here)))
 

@@ -1,7 +1,7 @@
 -- Extend carries the invariant: a slot that is extended from level 1 holds what its page's path holds.
 use mathlib.Core.Path.{_≡_, refl, sym, ap, subst, _∙_}
 use mathlib.Core.List.{List}
-use mathlib.Core.Bool.{true}
+use mathlib.Core.Bool.{true, false}
 use Prim.Native.Nat.{ℕ, suc, _-_, _^_, _<_}
 use native.Mathlib.Omega.{arith}
 use Rattle.paging.specs.declared.Guest.{Guest}
@@ -25,7 +25,7 @@ use Rattle.keeps.proofs.RightStates.{Mapped}
 use Rattle.keeps.proofs.Moves.{paged, Moves, extends, place-complete}
 use Rattle.promise.specs.Demand.{Fresh}
 use Rattle.promise.proofs.Settles.{Backed}
-use Rattle.promise.proofs.Holds.{seen, Holds, Behind, stay-backed, quiet-unended}
+use Rattle.promise.proofs.Holds.{seen, ends, Holds, Behind, stay-backed, quiet-unended}
 use Rattle.promise.proofs.Carries.{After, sized, fits, hp, here, one-slot, still}
 
 module _ (F : Fresh) (es : List Event) (k : ℕ) (s : State) (h : Holds F es k s)
@@ -80,11 +80,11 @@ module _ (F : Fresh) (es : List Event) (k : ℕ) (s : State) (h : Holds F es k s
   one : e .kind ≡ 1 → ⊥
   one x = omega arith
 
-  two : e .kind ≡ 2 → ⊥
-  two x = omega arith
-
   three : e .kind ≡ 3 → ⊥
   three x = omega arith
+
+  unended : (q u : ℕ) → ends F es q u k ≡ false
+  unended q u = quiet-unended F es q u k (λ x. omega arith) three
 
   module _ (m : Moves M room map maps p own s (h .right) i low s′) where
     -- the guest frame that the slot comes to stand on is the one behind the path
@@ -110,7 +110,7 @@ module _ (F : Fresh) (es : List Event) (k : ℕ) (s : State) (h : Holds F es k s
         let last : level ≡ 1 = sym (with-mark p i level v (m .place) rights (s .slots) low space) ∙ complete in
         let there : isPresent (entryAt 1) ≡ true = subst (λ (l : ℕ). isPresent (entryAt l) ≡ true) last (m .present) in
         let b = h .paths p own v (paged M room map maps p own s (h .right) i low) .full there in
-        let now : Backed view (suc k) (b .frame) (rightsAt 1) = stay-backed F es p v k (quiet-unended F es p v k two three) (b .backed) in
+        let now : Backed view (suc k) (b .frame) (rightsAt 1) = stay-backed F es p v k (unended p v) (b .backed) in
         let at-l : Backed view (suc k) (b .frame) rights = subst (λ (l : ℕ). Backed view (suc k) (b .frame) (rightsAt l)) (sym last) now in
         subst (λ (u : ℕ). Backed (seen F es p u) (suc k) (guest (placeIn slots′ p i)) (rightsIn slots′ p i))
         (sym (with-page p i level v (m .place) rights (s .slots) low space))
@@ -122,12 +122,12 @@ module _ (F : Fresh) (es : List Event) (k : ℕ) (s : State) (h : Holds F es k s
 
     moved : After F es k s h ok (stateOf (s .words) (s .shadow) slots′)
     moved =
-        one-slot F es k s h ok one two three (stateOf (s .words) (s .shadow) slots′) refl refl i
+        one-slot F es k s h ok one unended three (stateOf (s .words) (s .shadow) slots′) refl refl i
         (λ q j hj ne. with-other p i level v (m .place) rights (s .slots) q j low hj ne)
         (record { complete = holds })
 
   pub extended : After F es k s h ok s′
   extended =
       by-cases (extends M room map maps p own s (h .right) i low)
-      (λ q. rw q (still F es k s h ok one two three (s .words) (same-refl (M .tables) (s .words))))
+      (λ q. rw q (still F es k s h ok one unended three (s .words) (same-refl (M .tables) (s .words))))
       (λ m. rw (m .is) (moved m))

@@ -1,9 +1,8 @@
 -- THE INVARIANT of demand 3: what the machine holds at a moment, seen from the rules.
 use mathlib.Core.Path.{_≡_, refl, sym, ap, subst, _∙_}
-use mathlib.Core.Bool.{Bool, true, false, cond, _&&_, _||_}
+use mathlib.Core.Bool.{Bool, true, false, cond, _&&_}
 use mathlib.Core.List.{List}
 use Prim.Native.Nat.{ℕ, suc, _*_, _^_, _<_}
-use lib.Dec.{eqb}
 use lib.ListN.{length, getD, set}
 use borrow.Author.Tests.{eq-eqb, ne-eqb}
 use Rattle.paging.specs.declared.Guest.{Guest}
@@ -12,9 +11,10 @@ use Rattle.paging.specs.Layout.{frameWords, pageOf, frameOf, rightsOf, isPresen
 use Rattle.paging.specs.Walk.{meet}
 use Rattle.paging.proofs.Tests.{false-T}
 use Rattle.rules.specs.declared.Event.{Event}
-use Rattle.rules.specs.History.{Setup, isInvlpg, isCr3Write, isBy, eventAt, wordsAt, cr3At}
-use Rattle.rules.specs.View.{View, viewOf, endsCompleteOf}
+use Rattle.rules.specs.History.{Setup, isCr3Write, isBy, eventAt, wordsAt, cr3At}
+use Rattle.rules.specs.View.{View, viewOf, never}
 use Rattle.rules.specs.Kept.{stay}
+use Rattle.rules.proofs.Views.{other-idle, page-idle, kind-idle}
 use Rattle.tables.specs.declared.Path.{Path}
 use Rattle.tables.specs.State.{Machine, State, slotCount, markOf, pageIn, placeIn, rightsIn, rootOf, nextEntry, pathTo}
 use Rattle.trees.proofs.Trees.{Laid, shd}
@@ -33,8 +33,12 @@ module _ (F : Fresh) (es : List Event) where
   abbrev pub U : Setup
   U = guestOf F
 
+  -- the events that drop p's walks of page v
+  abbrev pub drops : ℕ → ℕ → ℕ → Bool
+  drops p v = never
+
   abbrev pub seen : ℕ → ℕ → View
-  seen p v = viewOf U es p v
+  seen p v = viewOf U es p v (drops p v)
 
   -- behind a host frame stands the guest frame of a held completed walk
   pub record Behind (p v k host rights : ℕ) : Type 0 where
@@ -69,10 +73,9 @@ module _ (F : Fresh) (es : List Event) where
   -- ---- a walk that event k + 1 does not end is held after it
 
   abbrev pub ends : ℕ → ℕ → ℕ → Bool
-  ends p v k = endsCompleteOf (M .tables) p v (eventAt es k)
+  ends p v k = seen p v .endsComplete k
 
   pub stay-backed : (p v k : ℕ) {rights : ℕ} {g : Guest} → ends p v k ≡ false → Backed (seen p v) k g rights → Backed (seen p v) (suc k) g rights
-  unfolding viewOf
   stay-backed p v k unended b = record {
     walk = b .walk;
     kept = stay (b .kept) (rw (b .complete) (false-T (ends p v k) unended));
@@ -126,21 +129,13 @@ module _ (F : Fresh) (es : List Event) where
     e = eventAt es k
 
     pub other-unended : (p ≡ e .proc → ⊥) → ends p v k ≡ false
-    other-unended ne = simp (ne-eqb (e .proc) p (λ q. ne (sym q)))
+    other-unended ne = other-idle U es p v (drops p v) k refl (λ q. ne (sym q)) .1
 
     pub page-unended : e .kind ≡ 2 → (v ≡ pageOf (M .tables) (e .a) → ⊥) → ends p v k ≡ false
-    page-unended two ne = go (isBy p e)
-      where
-        go : (b : Bool) → (b && (isCr3Write e || isInvlpg e && eqb (pageOf (M .tables) (e .a)) v)) ≡ false
-        go true = simp (two, ne-eqb (pageOf (M .tables) (e .a)) v (λ q. ne (sym q)))
-        go false = refl
+    page-unended two ne = page-idle U es p v (drops p v) k refl two (λ q. ne (sym q))
 
     pub quiet-unended : (e .kind ≡ 2 → ⊥) → (e .kind ≡ 3 → ⊥) → ends p v k ≡ false
-    quiet-unended two three = go (isBy p e)
-      where
-        go : (b : Bool) → (b && (isCr3Write e || isInvlpg e && eqb (pageOf (M .tables) (e .a)) v)) ≡ false
-        go true = simp (ne-eqb (e .kind) 3 three, ne-eqb (e .kind) 2 two)
-        go false = refl
+    quiet-unended two three = kind-idle U es p v (drops p v) k refl two three .1
 
   -- ---- words and CR3s after an event
 

@@ -9,7 +9,7 @@ use Rattle.paging.specs.Sound.{Sound}
 use Rattle.paging.proofs.Layouts.{tables64-sound}
 use Rattle.rules.specs.declared.Outcome.{Outcome}
 use Rattle.rules.specs.History.{wordsAt, cr3At}
-use Rattle.rules.specs.View.{viewOf}
+use Rattle.rules.specs.View.{viewOf, never}
 use Rattle.rules.specs.Known.{Puzzle, filled, knownSetup, Solved, AllSolved, starred, sides}
 use Rattle.rules.specs.Counts.{keep}
 use Rattle.rules.proofs.Views.{coherent}
@@ -20,15 +20,15 @@ module _ (Y : Layout) (ok : Sound Y) where
   -- the list of a puzzle, computed
   unfoldable pub computed : Puzzle → List Outcome
   computed z =
-      answers (viewOf (knownSetup Y z) (z .events) (z .question .proc) (pageOf Y (z .question .addr))) (Y .levels)
+      answers (viewOf (knownSetup Y z) (z .events) (z .question .proc) (pageOf Y (z .question .addr)) never) (Y .levels)
       (requestOf Y (z .question .request)) (length (z .events))
 
   solved : (z : Puzzle) → computed z ≡ z .outcomes → Solved Y z
   unfolding computed
   solved z e =
       rw (← e)
-      (answers-right (viewOf (knownSetup Y z) (z .events) (z .question .proc) (pageOf Y (z .question .addr))) (Y .levels)
-      (requestOf Y (z .question .request)) (coherent (knownSetup Y z) (z .events) (z .question .proc) _ ok) (length (z .events)))
+      (answers-right (viewOf (knownSetup Y z) (z .events) (z .question .proc) (pageOf Y (z .question .addr)) never) (Y .levels)
+      (requestOf Y (z .question .request)) (coherent (knownSetup Y z) (z .events) (z .question .proc) _ never ok) (length (z .events)))
 
   abbrev pub AllComputed : List Puzzle → Type 0
   AllComputed [] = Unit {0}

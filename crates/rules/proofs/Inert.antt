@@ -8,6 +8,7 @@ use Prim.Native.Nat.{ℕ, zero, suc}
 use native.Mathlib.Omega.{arith}
 use lib.Dec.{T, eqb}
 use lib.ListN.{length}
+use borrow.Author.Tests.{eqb-false}
 use Rattle.paging.specs.declared.Walk.{Walk}
 use Rattle.paging.specs.declared.Request.{Request}
 use Rattle.paging.specs.Layout.{pageOf, get, index}
@@ -18,13 +19,13 @@ use Rattle.rules.specs.declared.Event.{Event}
 use Rattle.rules.specs.declared.Question.{Question}
 use Rattle.rules.specs.declared.Outcome.{Outcome}
 use Rattle.rules.specs.History.{Setup, isStore, isInvlpg, isCr3Write, isBy, eventAt, wordsAt, cr3At, stored, loaded}
-use Rattle.rules.specs.View.{View, viewOf}
+use Rattle.rules.specs.View.{View, viewOf, never}
 use Rattle.rules.specs.Outcome.{Permitted, RightList, RightAt}
 use Rattle.rules.specs.Counts.{keep}
 use Rattle.rules.specs.Coherent.{Coherent}
-use Rattle.rules.proofs.Views.{coherent}
+use Rattle.rules.proofs.Views.{coherent, Idle, kind-idle}
 use Rattle.rules.specs.Kept.{Kept, begin, extend, stay, ends}
-use Rattle.rules.proofs.Steps.{never, held-is-kept}
+use Rattle.rules.proofs.Steps.{neither, held-is-kept}
 use Rattle.rules.specs.Counts.{counts}
 
 module _ (short long : View) (φ : ℕ → ℕ) where
@@ -156,22 +157,10 @@ module _ (f : Event → Bool) (only : (e : Event) → f e ≡ false → counts e
   idle-load false b h = refl
   idle-load true b h = h
 
-  module _ (U : Setup) (es : List Event) (p v n : ℕ) (c : counts (eventAt es n) ≡ false) where
-    idle-partial : T (not (viewOf U es p v .endsPartial n))
-    unfolding viewOf
-    idle-partial = let (i, r) = no-ends (eventAt es n) c in cases (isBy p (eventAt es n)) (isInvlpg (eventAt es n)) (isCr3Write (eventAt es n)) i r
-      where
-        cases : (a b d : Bool) → b ≡ false → d ≡ false → T (not (a && (b || d)))
-        cases true b d i r = simp (i, r) tt
-        cases false b d i r = tt
-
-    idle-complete : T (not (viewOf U es p v .endsComplete n))
-    unfolding viewOf
-    idle-complete = let (i, r) = no-ends (eventAt es n) c in cases (isBy p (eventAt es n)) (isInvlpg (eventAt es n)) (isCr3Write (eventAt es n)) i r
-      where
-        cases : (a b d : Bool) → b ≡ false → d ≡ false → T (not (a && (d || b && eqb (pageOf (U .tables) (eventAt es n .a)) v)))
-        cases true b d i r = simp (i, r) tt
-        cases false b d i r = tt
+  idle : (U : Setup) (es : List Event) (p v n : ℕ) → counts (eventAt es n) ≡ false → Idle U es p v never n refl
+  idle U es p v n c =
+      let (i, r) = no-ends (eventAt es n) c in
+      kind-idle U es p v never n refl (eqb-false (eventAt es n .kind) 2 i) (eqb-false (eventAt es n .kind) 3 r)
 
   module _ (U : Setup) (es : List Event) where
     words-same : (n : ℕ) → wordsAt U es n ≡ wordsAt U (keep f es) (passed f es n)
@@ -194,7 +183,7 @@ module _ (f : Event → Bool) (only : (e : Event) → f e ≡ false → counts e
         pick (inl (q, c)) ih = rw (q, idle-load (isBy p (eventAt es n)) (isCr3Write (eventAt es n)) (no-ends (eventAt es n) c .1)) ih
         pick (inr (q, c)) ih = rw (q, c, ih)
 
-    fewer : (p v : ℕ) → Inserted (viewOf U (keep f es) p v) (viewOf U es p v) (passed f es)
+    fewer : (p v : ℕ) → Inserted (viewOf U (keep f es) p v never) (viewOf U es p v never) (passed f es)
     unfolding viewOf
     fewer p v = record {
       from-start = passed-zero es;
@@ -204,9 +193,9 @@ module _ (f : Event → Bool) (only : (e : Event) → f e ≡ false → counts e
     }
       where
         pick : (n : ℕ) → Next es n
-            → ((passed f es (suc n) ≡ passed f es n) × ((w : Walk) → T (not (ends (viewOf U es p v) w n))))
-            ⊎ ((passed f es (suc n) ≡ suc (passed f es n)) × ((w : Walk) → ends (viewOf U es p v) w n ≡ ends (viewOf U (keep f es) p v) w (passed f es n)))
-        pick n (inl (q, c)) = inl (q, λ w. never _ _ (w .level) (idle-partial U es p v n c) (idle-complete U es p v n c))
+            → ((passed f es (suc n) ≡ passed f es n) × ((w : Walk) → T (not (ends (viewOf U es p v never) w n))))
+            ⊎ ((passed f es (suc n) ≡ suc (passed f es n)) × ((w : Walk) → ends (viewOf U es p v never) w n ≡ ends (viewOf U (keep f es) p v never) w (passed f es n)))
+        pick n (inl (q, c)) = inl (q, λ w. neither _ _ (w .level) (idle U es p v n c .0) (idle U es p v n c .1))
         pick n (inr (q, c)) = inr (q, λ w. rw c)
 
     -- A QUESTION'S LIST IS THE SAME WITHOUT THE EVENTS THAT FAIL THE TEST
@@ -214,6 +203,6 @@ module _ (f : Event → Bool) (only : (e : Event) → f e ≡ false → counts e
         → RightAt U es q (length es) os ↔ RightAt U (keep f es) q (length (keep f es)) os
     fewer-right ok q os =
         rw (← passed-all es)
-        (inserted-right (viewOf U (keep f es) (q .proc) (pageOf (U .tables) (q .addr))) (viewOf U es (q .proc) (pageOf (U .tables) (q .addr)))
+        (inserted-right (viewOf U (keep f es) (q .proc) (pageOf (U .tables) (q .addr)) never) (viewOf U es (q .proc) (pageOf (U .tables) (q .addr)) never)
         (passed f es) (fewer (q .proc) (pageOf (U .tables) (q .addr)))
-        (coherent U (keep f es) (q .proc) _ ok) (coherent U es (q .proc) _ ok) (requestOf (U .tables) (q .request)) (length es) os)
+        (coherent U (keep f es) (q .proc) _ never ok) (coherent U es (q .proc) _ never ok) (requestOf (U .tables) (q .request)) (length es) os)

@@ -1,7 +1,7 @@
 -- The held walks from moment to moment: begin, extend, stay. The rule by moments says the same, in both directions.
 use mathlib.Core.Path.{_≡_, refl, sym, _∙_, ap}
 use mathlib.Core.Logic.{_↔_, _⊎_, inl, inr}
-use mathlib.Core.Bool.{Bool, not}
+use mathlib.Core.Bool.{Bool, false, not}
 use Prim.Native.Nat.{ℕ, zero, suc, _≤_, _<_}
 use native.Mathlib.Omega.{arith}
 use native.Mathlib.Decide.{le-ind, ℕ-discrete}
@@ -28,9 +28,9 @@ as-complete : (p c : Bool) (l : ℕ) → l ≡ 0 → byLevel p c l ≡ c
 as-complete p c zero h = refl
 as-complete p c (suc l) h = absurd (omega arith)
 
-pub never : (p c : Bool) (l : ℕ) → T (not p) → T (not c) → T (not (byLevel p c l))
-never p c zero h k = k
-never p c (suc l) h k = h
+pub neither : (p c : Bool) (l : ℕ) → p ≡ false → c ≡ false → T (not (byLevel p c l))
+neither p c zero h k = rw k tt
+neither p c (suc l) h k = rw h tt
 
 module _ (seen : View) where
   ends-partial : (w : Walk) (k : ℕ) → 0 < w .level → ends seen w k ≡ seen .endsPartial k

@@ -15,7 +15,7 @@ use Rattle.rules.specs.declared.Event.{Event}
 use Rattle.rules.specs.declared.Question.{Question}
 use Rattle.rules.specs.declared.Outcome.{Outcome}
 use Rattle.rules.specs.History.{Setup, Fit}
-use Rattle.rules.specs.View.{View, viewOf}
+use Rattle.rules.specs.View.{View, viewOf, never}
 use Rattle.rules.specs.Numbers.{eventsOf, numbersOf}
 use Rattle.rules.specs.Held.{Held, Four, FourPartial}
 use Rattle.rules.specs.Outcome.{RightAt}
@@ -33,12 +33,12 @@ use Rattle.rules.proofs.Lists as R
 use Rattle.rules.proofs.Bounds as B
 use Rattle.rules.proofs.Answered as K
 
-module _ (U : Setup) (es : List Event) (p v : ℕ) where
-  pub view-coherent : Sound (U .tables) → Coherent (viewOf U es p v) (U .tables .levels) (U .frames)
-  view-coherent = L.coherent U es p v
+module _ (U : Setup) (es : List Event) (p v : ℕ) (drops : ℕ → Bool) where
+  pub view-coherent : Sound (U .tables) → Coherent (viewOf U es p v drops) (U .tables .levels) (U .frames)
+  view-coherent = L.coherent U es p v drops
 
-  pub view-rooted : Fit U es → p < U .processors → Rooted (viewOf U es p v) (U .frames)
-  view-rooted = L.rooted U es p v
+  pub view-rooted : Fit U es → p < U .processors → Rooted (viewOf U es p v drops) (U .frames)
+  view-rooted = L.rooted U es p v drops
 
 module _ (seen : View) {levels frames : ℕ} (law : Coherent seen levels frames) where
   -- "there are moments t4 ≤ t3 ≤ t2 ≤ t1 …": the sentence written out is the rule, of complete walks of four levels
@@ -56,19 +56,19 @@ module _ (seen : View) {levels frames : ℕ} (law : Coherent seen levels frames)
 module _ (U : Setup) (es : List Event) (q : Question) (ok : Sound (U .tables)) where
   -- two right lists are equal, at every moment
   pub one-list : (n : ℕ) (os os′ : List Outcome) → RightAt U es q n os → RightAt U es q n os′ → os ≡ os′
-  one-list n os os′ a b = R.right-unique (viewOf U es (q .proc) (pageOf (U .tables) (q .addr))) (requestOf (U .tables) (q .request)) n os os′ a b
+  one-list n os os′ a b = R.right-unique (viewOf U es (q .proc) (pageOf (U .tables) (q .addr)) never) (requestOf (U .tables) (q .request)) n os os′ a b
 
   -- no list is empty
   pub some-outcome : (n : ℕ) (os : List Outcome) → RightAt U es q n os → 0 < length os
-  some-outcome n os r = R.right-some _ (U .tables .levels) _ (view-coherent U es (q .proc) _ ok) n os r
+  some-outcome n os r = R.right-some _ (U .tables .levels) _ (view-coherent U es (q .proc) _ never ok) n os r
 
   -- there is a right list
   pub a-list : (n : ℕ) → (os : List Outcome) × RightAt U es q n os
-  a-list n = (_, R.answers-right _ (U .tables .levels) _ (view-coherent U es (q .proc) _ ok) n)
+  a-list n = (_, R.answers-right _ (U .tables .levels) _ (view-coherent U es (q .proc) _ never ok) n)
 
   -- of a history that fits, it has at most G + 3 members
   pub at-most : Fit U es → q .proc < U .processors → (n : ℕ) (os : List Outcome) → RightAt U es q n os → length os ≤ U .frames + 3
-  at-most fit h n os r = B.right-length _ _ (view-coherent U es (q .proc) _ ok) (view-rooted U es (q .proc) _ fit h) n os r
+  at-most fit h n os r = B.right-length _ _ (view-coherent U es (q .proc) _ never ok) (view-rooted U es (q .proc) _ never fit h) n os r
 
   -- the list at moment n is that of the first n events
   pub list-before : (n : ℕ) (os : List Outcome) → RightAt U es q n os ↔ RightAt U (take n es) q n os

@@ -14,7 +14,7 @@ use Rattle.rules.specs.declared.Question.{Question}
 use Rattle.rules.specs.declared.Outcome.{Outcome}
 use Rattle.rules.specs.declared.Outcome.the-variants.{Address, Fault}
 use Rattle.rules.specs.History.{Setup, eventRefusal}
-use Rattle.rules.specs.View.{View, viewOf}
+use Rattle.rules.specs.View.{View, viewOf, never}
 use Rattle.rules.specs.Held.{Held}
 
 -- What a held walk gives, by what it does at the end: "each guest frame of a held completed walk with enough rights; the
@@ -49,7 +49,7 @@ pub record RightList (seen : View) (q : Request) (n : ℕ) (os : List Outcome) :
 
 -- the list of a question at moment n
 abbrev pub RightAt : Setup → List Event → Question → ℕ → List Outcome → Type 0
-RightAt U es q n os = RightList (viewOf U es (q .proc) (pageOf (U .tables) (q .addr))) (requestOf (U .tables) (q .request)) n os
+RightAt U es q n os = RightList (viewOf U es (q .proc) (pageOf (U .tables) (q .addr)) never) (requestOf (U .tables) (q .request)) n os
 
 -- a question is tested as the access that it asks about
 abbrev pub questionRefusal : Setup → Question → ℕ

@@ -1,5 +1,5 @@
 -- What one processor and one page see of a history. The rule of held walks speaks of a view, and of nothing else.
-use mathlib.Core.Bool.{Bool, not, _&&_, _||_}
+use mathlib.Core.Bool.{Bool, false, not, _&&_, _||_}
 use mathlib.Core.List.{List}
 use Prim.Native.Nat.{ℕ, _≤_, _<_}
 use lib.Dec.{T, eqb}
@@ -31,13 +31,17 @@ endsPartialOf p e = isBy p e && (isInvlpg e || isCr3Write e)
 abbrev pub endsCompleteOf : Layout → ℕ → ℕ → Event → Bool
 endsCompleteOf Y p v e = isBy p e && (isCr3Write e || isInvlpg e && eqb (pageOf Y (e .a)) v)
 
--- what processor p sees of page v
-unfoldable pub viewOf : Setup → List Event → ℕ → ℕ → View
-viewOf U es p v =
+-- what processor p sees of page v, where event k + 1 ends all walks of that page if it is one that drops them (`drops k`)
+unfoldable pub viewOf : Setup → List Event → ℕ → ℕ → (ℕ → Bool) → View
+viewOf U es p v drops =
     let Y = U .tables in
     record {
       begins = λ k. start Y (cr3At U es p k);
       steps = λ k w. step Y (U .frames) w (get Y (wordsAt U es k) (w .frame .0) (index Y v (w .level)));
-      endsPartial = λ k. endsPartialOf p (eventAt es k);
-      endsComplete = λ k. endsCompleteOf Y p v (eventAt es k);
+      endsPartial = λ k. drops k || endsPartialOf p (eventAt es k);
+      endsComplete = λ k. drops k || endsCompleteOf Y p v (eventAt es k);
     }
+
+-- no event drops walks
+abbrev pub never : ℕ → Bool
+never k = false

@@ -19,7 +19,7 @@ use Rattle.rules.specs.declared.Question.{Question}
 use Rattle.rules.specs.declared.Outcome.{Outcome}
 use Rattle.rules.specs.declared.Outcome.the-variants.{Address, Fault}
 use Rattle.rules.specs.History.{Setup, setup64}
-use Rattle.rules.specs.View.{viewOf}
+use Rattle.rules.specs.View.{viewOf, never}
 use Rattle.rules.specs.Outcome.{given}
 use Rattle.rules.proofs.Steps.{held-is-kept, kept-inside}
 use Rattle.rules.proofs.Theorems.{view-coherent, view-rooted}
@@ -84,9 +84,9 @@ module _ (map cr3s start events : List ℕ) (q : Question) (p : Posed map cr3s s
       let es = eventsOf events in
       let n = length events / 4 in
       let v = pageOf tables64 (q .addr) in
-      let seen = viewOf U es (q .proc) v in
-      let law = view-coherent U es (q .proc) v tables64-sound in
-      let root = view-rooted U es (q .proc) v (accepts.fit a b ok) (ok .proc) in
+      let seen = viewOf U es (q .proc) v never in
+      let law = view-coherent U es (q .proc) v never tables64-sound in
+      let root = view-rooted U es (q .proc) v never (accepts.fit a b ok) (ok .proc) in
       let made = r .exact (Address f) .0 m in
       let inside = kept-inside seen law root {n = n} {w = made .walk} (held-is-kept seen law n (made .walk) .0 (made .held)) in
       omega (arith, given-frame (requestOf tables64 (q .request)) (made .walk) (seen .steps n (made .walk)) f (made .gives))
