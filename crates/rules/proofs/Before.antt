@@ -1,7 +1,7 @@
 -- A question's list at moment n is settled by the first n events: what comes later, or whether anything does, is nothing to it.
 use mathlib.Core.Path.{_≡_, refl, sym, _∙_, ap, ap₂}
 use mathlib.Core.Logic.{_↔_, Iff·trans}
-use mathlib.Core.Bool.{Bool}
+use mathlib.Core.Bool.{Bool, _||_}
 use mathlib.Core.List.{List, [], _∷_}
 use Prim.Native.Nat.{ℕ, zero, suc, _≤_, _<_}
 use native.Mathlib.Omega.{arith}
@@ -16,7 +16,7 @@ use Rattle.rules.specs.declared.Event.{Event}
 use Rattle.rules.specs.declared.Question.{Question}
 use Rattle.rules.specs.declared.Outcome.{Outcome}
 use Rattle.rules.specs.History.{Setup, eventAt, wordsAt, cr3At, stored, loaded}
-use Rattle.rules.specs.View.{View, viewOf, endsPartialOf, endsCompleteOf}
+use Rattle.rules.specs.View.{View, viewOf, never, endsPartialOf, endsCompleteOf}
 use Rattle.rules.specs.Outcome.{Permitted, RightList, RightAt}
 use Rattle.rules.specs.Coherent.{Coherent}
 use Rattle.rules.specs.Kept.{byLevel, Kept, begin, extend, stay}
@@ -77,15 +77,16 @@ module _ (U : Setup) (es ds : List Event) where
   cr3-before p zero same = refl
   cr3-before p (suc n) same = ap₂ (loaded p) (same n (omega arith)) (cr3-before p n (λ k h. same k (omega arith)))
 
-  views-alike : (p v n : ℕ) → Alike es ds n → UpTo n (viewOf U es p v) (viewOf U ds p v)
+  views-alike : (p v n : ℕ) (drops drops′ : ℕ → Bool) → Alike es ds n → ((k : ℕ) → k < n → drops k ≡ drops′ k)
+      → UpTo n (viewOf U es p v drops) (viewOf U ds p v drops′)
   unfolding viewOf
-  views-alike p v n same = record {
+  views-alike p v n drops drops′ same dropped = record {
     begins = λ k h. ap (start (U .tables)) (cr3-before p k (λ j l. same j (omega arith)));
     steps = λ k h w.
         ap (λ (ws : List ℕ). step (U .tables) (U .frames) w (get (U .tables) ws (w .frame .0) (index (U .tables) v (w .level))))
         (words-before k (λ j l. same j (omega arith)));
-    partials = λ k h. ap (endsPartialOf p) (same k h);
-    completes = λ k h. ap (endsCompleteOf (U .tables) p v) (same k h);
+    partials = λ k h. ap₂ _||_ (dropped k h) (ap (endsPartialOf p) (same k h));
+    completes = λ k h. ap₂ _||_ (dropped k h) (ap (endsCompleteOf (U .tables) p v) (same k h));
   }
 
 -- the first n of at least n events
@@ -100,8 +101,8 @@ pub list-before : (U : Setup) (es : List Event) (q : Question) → Sound (U .tab
     → RightAt U es q n os ↔ RightAt U (take n es) q n os
 list-before U es q ok n os =
     let v = pageOf (U .tables) (q .addr) in
-    let there = views-alike U es (take n es) (q .proc) v n (taken n es) in
-    let law = coherent U es (q .proc) v ok in
-    let law′ = coherent U (take n es) (q .proc) v ok in
+    let there = views-alike U es (take n es) (q .proc) v n never never (taken n es) (λ k h. refl) in
+    let law = coherent U es (q .proc) v never ok in
+    let law′ = coherent U (take n es) (q .proc) v never ok in
     let r = requestOf (U .tables) (q .request) in
     (agreed r n law law′ there os, agreed r n law′ law (up-to-sym there) os)
