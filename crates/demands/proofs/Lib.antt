@@ -1,2 +1,7 @@
+pub mod Given
+pub mod Calls
+pub mod Plays
+pub mod PlayLists
+pub mod PlayEnds
 pub mod RunProgram
 pub mod Theorems

@@ -1,50 +1,33 @@
 -- The machine that `run` goes through is a fresh machine of demand 3 that loses no slot.
-use mathlib.Core.Path.{_≡_, refl, ap, _∙_}
-use mathlib.Core.Bool.{false}
-use mathlib.Core.List.{List, []}
-use Prim.Native.Nat.{ℕ, zero, suc, _*_}
+use mathlib.Core.Path.{_≡_, refl, sym, ap, subst, _∙_}
+use mathlib.Core.List.{List, [], _++_}
+use Prim.Native.Nat.{ℕ, zero, suc, _+_, _*_, _/_}
+use native.Mathlib.Decide.{ℕ-discrete}
 use native.Mathlib.Omega.{arith}
-use lib.ListN.{length, replicate, length-replicate}
-use Rattle.paging.specs.Numbers.{each}
+use lib.ListN.{length, getD, drop, replicate, length-replicate}
 use Rattle.rules.specs.History.{eventAt}
 use Rattle.rules.specs.Numbers.{eventsOf}
 use Rattle.tables.specs.declared.Sizes.{Sizes}
-use Rattle.tables.specs.State.{Machine, machine64, shadowOf, State, stateOf, slotCount, Sized}
+use Rattle.tables.specs.State.{Machine, machine64, shadowOf, State, stateOf, Sized}
 use Rattle.shadow.specs.After.{after, started, setupRefusal}
 use Rattle.shadow.proofs.Starting.{accepted-sizes, setup-sized}
 use Rattle.shadow.specs.Runs.{stateAfter, answerOf}
-use Rattle.sections.specs.Sections.{got, Puzzle}
+use Rattle.sections.specs.Sections.{Got, got, Puzzle}
 use Rattle.puzzle.specs.Buffers.{wordsOf}
 use Rattle.puzzle.proofs.Theorems.{words-long}
-use Rattle.trainer.specs.Call.{puzzleIn}
-use Rattle.trainer.specs.Run.{sizesOf}
+use Rattle.trainer.specs.declared.Written.{Written}
+use Rattle.trainer.specs.Call.{puzzleIn, Prints}
+use Rattle.trainer.specs.Run.{sizesOf, answerLine, RunOf}
+use Rattle.trainer.proofs.Turns.{joined-same}
 use Rattle.trainer.proofs.Theorems.{read, starts, fits}
 use Rattle.trees.proofs.Entries.{able64}
 use Rattle.promise.specs.Demand as D
-use Rattle.promise.specs.Demand.{Fresh, Run, losing, stateAt, answerAt}
+use Rattle.promise.specs.Demand.{stateAt, answerAt}
+use Rattle.flamecurl.specs.Exports.{writtenNumbers, PrintExport}
+use Rattle.demands.proofs.Given.{given}
+use Rattle.demands.specs.RunProgram.{machineFor, runFor, printedFor}
+use Rattle.promise.proofs.Lossless.{none-lost}
 use Rattle.promise.proofs.Begun.{begun-trees, begun-triples}
-
--- the machine of a puzzle, and the run of its events
-abbrev pub machineFor : Puzzle → Fresh
-machineFor z = record { machine = machine64 (sizesOf (z .map) (z .cr3s)); map = z .map; words = wordsOf z; cr3s = z .cr3s }
-
-abbrev pub runFor : Puzzle → Run
-runFor z = record { events = eventsOf (z .events); lost = λ k p j. false }
-
--- where nothing is lost nothing changes
-idle : (n : ℕ) {A : Type 0} (x : A) → each n (λ k y. y) x ≡ x
-unfolding each
-idle zero x = refl
-idle (suc n) x = idle n x
-
-idle-twice : (n m : ℕ) (x : List ℕ) → each n (λ p l. each m (λ k l. l) l) x ≡ x
-unfolding each
-idle-twice zero m x = refl
-idle-twice (suc n) m x = idle m (each n (λ p l. each m (λ k l. l) l) x) ∙ idle-twice n m x
-
-none-lost : (M : Machine) (s : State) → losing M (λ p j. false) s ≡ s
-unfolding losing
-none-lost M s = ap (λ (l : List ℕ). record { words = s .words; shadow = s .shadow; slots = l }) (idle-twice (M .processors) slotCount (s .slots))
 
 module _ (z : Puzzle) where
   abbrev M : Machine
@@ -93,3 +76,21 @@ module _ (text : List ℕ) {z : Puzzle} {at : ℕ} (e : puzzleIn text ≡ got z 
             (begun-triples (machine64 sizes) (able64 sizes sized) (z .cr3s) (wordsOf z));
         words = words-long text (read text e);
       }
+
+  -- WHAT `run` PRINTS ARE THE ANSWERS OF THAT RUN
+  pub run-prints : (before after : List ℕ) {answer told : List ℕ} → PrintExport RunOf text before after answer 0 told → after ≡ printedFor z ++ drop (length (printedFor z)) before
+  run-prints before after c = go (ℕ-discrete (length before) 16384)
+    where
+      lines : (bytes : List ℕ) → Prints RunOf (puzzleIn text) bytes → bytes ≡ printedFor z
+      lines bytes h =
+          subst (λ (m : Got Puzzle). Prints RunOf m bytes) e h
+          ∙ joined-same (length (z .events) / 4) _ _ (λ k l. ap (answerLine (k + 1)) (sym (same-answer z k)))
+
+      go : Dec (length before ≡ 16384) → after ≡ printedFor z ++ drop (length (printedFor z)) before
+      go (no h) =
+          let a = given c refl in
+          let one = ap (λ (w : Written). getD (writtenNumbers w) 0 0) (a .call .refused h .0) in
+          absurd (omega (arith, a .first, one))
+      go (yes h) =
+          let p = given c refl .call .printed h in
+          p .holds ∙ ap (λ (l : List ℕ). l ++ drop (length l) before) (lines (p .bytes) (p .prints))

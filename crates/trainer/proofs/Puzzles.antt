@@ -8,6 +8,7 @@ use lib.Dec.{eqb, ltb, leb}
 use lib.ListN.{length, getD}
 use borrow.Author.Tests.{eq-eqb, ne-eqb, lt-ltb, lt-leb, le-leb, leb-true}
 use Rattle.paging.specs.Numbers.{all}
+use Rattle.paging.specs.Layout.{frameWords}
 use Rattle.paging.specs.Frame.{isNew, mapFits, cr3sFit}
 use Rattle.paging.proofs.Numbers.{between}
 use Rattle.rules.specs.History.{eventRefusal}
@@ -31,7 +32,7 @@ unfolding all
 all-each zero f h = refl
 all-each (suc n) f h = simp (all-each n f (λ k l. h k (omega arith)), h n (omega arith))
 
-first-all : (n : ℕ) (f : ℕ → ℕ) → ((k : ℕ) → k < n → f k ≡ 0) → firstRefusal n f ≡ 0
+pub first-all : (n : ℕ) (f : ℕ → ℕ) → ((k : ℕ) → k < n → f k ≡ 0) → firstRefusal n f ≡ 0
 unfolding firstRefusal
 first-all zero f h = refl
 first-all (suc n) f h = or-second (firstRefusal n f) (f n) (first-all n f (λ k l. h k (omega arith))) ∙ h n (omega arith)
@@ -69,10 +70,21 @@ sizes z r =
       questions = omega (arith, r .questions .long, between 1 16 q (r .questions .counted) .1);
     }
 
-sizes-fit : (m p e w k o : ℕ) → 1 ≤ m → m ≤ 16 → 1 ≤ p → p ≤ 4 → e % 4 ≡ 0 → e ≤ 1024 → w ≡ 512 * m → k ≡ 640 → o ≡ 38 → sizesFit m p e w k o ≡ true
+pub sizes-fit : (m p e w k o : ℕ) → (1 ≤ m) × (m ≤ 256) → (1 ≤ p) × (p ≤ 4) → e % 4 ≡ 0 → e / 4 ≤ 4096 → w ≡ frameWords * m → 40 * m ≤ k → 2 * (m + 3) ≤ o
+    → sizesFit m p e w k o ≡ true
 unfolding sizesFit
-sizes-fit m p e w k o a b c d four f g h i =
-    simp (le-leb 1 m a, le-leb m 256 (omega arith), le-leb 1 p c, le-leb p 4 d, eq-eqb (e % 4) 0 four, le-leb (e / 4) 4096 (omega arith), eq-eqb w (512 * m) g, le-leb (40 * m) k (omega arith), le-leb (2 * (m + 3)) o (omega arith))
+sizes-fit m p e w k o a b four f g h i =
+    simp (
+      le-leb 1 m (a .0),
+      le-leb m 256 (a .1),
+      le-leb 1 p (b .0),
+      le-leb p 4 (b .1),
+      eq-eqb (e % 4) 0 four,
+      le-leb (e / 4) 4096 f,
+      eq-eqb w (frameWords * m) g,
+      le-leb (40 * m) k h,
+      le-leb (2 * (m + 3)) o i,
+    )
 
 module _ (text : List ℕ) (z : Puzzle) (at : ℕ) (e : puzzleOf text ≡ got z at) where
   range : Sizes z
@@ -103,7 +115,7 @@ module _ (text : List ℕ) (z : Puzzle) (at : ℕ) (e : puzzleOf text ≡ got z 
           let b : Lent = lent (wordsOf z) work outcomes in
           let r = range in
           let f : ℕ → ℕ = λ j. eventRefusal (setupAsked a b) (eventOf (z .events) j) in
-          list-later a b (sizes-fit _ _ _ _ _ _ (r .some) (r .frames) (r .one) (r .processors) (r .fours) (r .events) (reads.words-long text e) w o) map-fits cr3s-fit
+          list-later a b (sizes-fit _ _ _ _ _ _ (r .some, omega (arith, r .frames)) (r .one, r .processors) (r .fours) (omega (arith, r .events)) (reads.words-long text e) (omega (arith, r .frames)) (omega (arith, r .frames))) map-fits cr3s-fit
           ∙ or-second (firstRefusal (length (z .events) / 4) f) (questionRefusal (setupAsked a b) (questionOf (z .questions) k)) (first-all (length (z .events) / 4) f (λ j l. reads.events-fit text e j (omega arith)))
           ∙ reads.questions-fit text e k (omega arith)
 
