@@ -5,16 +5,36 @@ use mathlib.Core.List.{List}
 use Prim.Native.Nat.{ℕ, _*_, _<_}
 use lib.Dec.{eqb}
 use lib.ListN.{length, take, getD}
-use Rattle.cursor.specs.Text.{lineAt, pastBlanks}
-use Rattle.sections.specs.Sections.{Got, got, refused, Puzzle, puzzleOf}
-use Rattle.sections.specs.PartsCode.{Kept}
+use Rattle.cursor.specs.declared.Cursor.{Cursor}
+use Rattle.cursor.specs.Text.{lineAt, pastBlanks, Stands}
+use Rattle.sections.specs.declared.Section.{Section}
+use Rattle.sections.specs.declared.Part.{Part}
+use Rattle.sections.specs.declared.Part.the-variants.{Read, Refused as Unread}
+use Rattle.sections.specs.Sections.{Got, got, refused, width, section, Puzzle, puzzleOf}
+use Rattle.sections.specs.PartsCode.{Kept, PartIs}
 use Rattle.puzzle.specs.declared.ReadResult.{ReadResult}
 use Rattle.puzzle.specs.declared.ReadResult.the-variants.{Accepted, Refused}
 use Rattle.puzzle.specs.Buffers.{Buffers}
 
--- the end of the text: counts, or the place of what is left over
-abbrev pub EndIs : List ℕ → ℕ → ReadResult → ReadResult → Type 0
-EndIs text at counts r = r ≡ cond (eqb (pastBlanks text at) (length text)) counts (Refused 10 (lineAt text (pastBlanks text at)))
+-- the count of a section; 0 of one that was refused
+abbrev pub countOf : Part → ℕ
+countOf (Read count c) = count
+countOf (Unread number line) = 0
+
+-- where the next section is read
+pub record Ready (text : List ℕ) (before : Part) : Type 0 where
+  pub stands : {count : ℕ} {c : Cursor} → before ≡ Read count c → Stands text c
+
+-- a section after those before it; the first refusal stays
+pub record NextIs (before : Part) (which : Section) (g p : ℕ) (text old new : List ℕ) (r : Part) : Type 0 where
+  pub read : {count : ℕ} {c : Cursor} → before ≡ Read count c → PartIs (section which g p text (c .at)) (width which) text old new r
+  pub fault : {number line : ℕ} → before ≡ Unread number line → r ≡ Unread number line
+
+-- the end of the text after its last section: counts, or the place of what is left over
+pub record EndIs (text : List ℕ) (last : Part) (counts r : ReadResult) : Type 0 where
+  pub read : {count : ℕ} {c : Cursor} → last ≡ Read count c
+      → r ≡ cond (eqb (pastBlanks text (c .at)) (length text)) counts (Refused 10 (lineAt text (pastBlanks text (c .at))))
+  pub fault : {number line : ℕ} → last ≡ Unread number line → r ≡ Refused number line
 
 -- five lists
 abbrev pub lists : List ℕ → List ℕ → List ℕ → List ℕ → List ℕ → Puzzle

@@ -6,10 +6,10 @@ ghost use mathlib.Core.Path.{_≡_};
 ghost use mathlib.Core.Bool.{true};
 ghost use Prim.Native.Nat.{_*_, _≤_};
 ghost use lib.ListN.{length, take, replicate};
-ghost use Rattle.cursor.specs.Text.{Stands};
 ghost use Rattle.sections.specs.Sections.{puzzleOf};
+ghost use Rattle.sections.specs.PartsCode.{capacity};
 ghost use Rattle.puzzle.specs.Buffers.{buffers, after, withPairs, laid, verdictOf, answer, readCall};
-ghost use Rattle.puzzle.specs.PartsCode.{lists, LongEnough, EndIs, SectionsAre, WordsBelow, Lengths, accepts};
+ghost use Rattle.puzzle.specs.PartsCode.{countOf, Ready, NextIs, EndIs, lists, LongEnough, SectionsAre, WordsBelow, Lengths, accepts};
 
 // The count of each section, or a refusal number and its line.
 pub enum ReadResult {
@@ -23,16 +23,42 @@ pub enum ReadResult {
     Refused(u64, u64),
 }
 
-// Only blanks may follow the last section.
-fn finish(text: &[u8], c: Cursor, counts: ReadResult) -> ReadResult
-    requires { ⌜ Stands (now text) c ⌝ }
-    ensures { λ r. ⌜ EndIs (now (text .entry)) (c .at) counts r ⌝ }
+// The count of a section; 0 of one that was refused.
+fn count_of(part: Part) -> u64
+    ensures { λ r. ⌜ r ≡ countOf part ⌝ }
 {
-    let end = cursor::skip_from(text, c);
-    if end.at < text.len() {
-        return ReadResult::Refused(10, end.line);
+    match part {
+        Part::Read(count, _) => count,
+        Part::Refused(_, _) => 0,
     }
-    counts
+}
+
+// The next section, if all before it were read; the first refusal stays.
+fn read_next(text: &[u8], before: Part, which: Section, g: u64, p: u64, buffer: &mut [u64]) -> Part
+    requires { ⌜ Ready (now text) before × (g ≤ 16) × (length (now buffer) ≡ capacity which) ⌝ }
+    ensures { λ r. ⌜ NextIs before which g p (now (text .entry)) (now (buffer .entry)) (now (buffer .exit)) r ⌝ }
+{
+    match before {
+        Part::Refused(number, line) => Part::Refused(number, line),
+        Part::Read(_, c) => sections::read(text, c, which, g, p, buffer),
+    }
+}
+
+// Only blanks may follow the last section.
+fn finish(text: &[u8], last: Part, counts: ReadResult) -> ReadResult
+    requires { ⌜ Ready (now text) last ⌝ }
+    ensures { λ r. ⌜ EndIs (now (text .entry)) last counts r ⌝ }
+{
+    match last {
+        Part::Refused(number, line) => ReadResult::Refused(number, line),
+        Part::Read(_, c) => {
+            let end = cursor::skip_from(text, c);
+            if end.at < text.len() {
+                return ReadResult::Refused(10, end.line);
+            }
+            counts
+        }
+    }
 }
 
 // All sections in their order, each into its buffer; the words as pairs of word and value.
@@ -48,39 +74,21 @@ fn read_sections(
     ensures { λ r. ⌜ SectionsAre (now (text .entry)) (lists (now (map .entry)) (now (cr3s .entry)) (now (pairs .entry)) (now (events .entry)) (now (questions .entry))) (lists (now (map .exit)) (now (cr3s .exit)) (now (pairs .exit)) (now (events .exit)) (now (questions .exit))) r ⌝ }
 {
     let start = Cursor { at: 0, line: 1 };
-    match sections::read(text, start, Section::Map, 0, 0, map) {
-        Part::Refused(number, line) => ReadResult::Refused(number, line),
-        Part::Read(g, c1) => match sections::read(text, c1, Section::Cr3s, g, 0, cr3s) {
-            Part::Refused(number, line) => ReadResult::Refused(number, line),
-            Part::Read(p, c2) => match sections::read(text, c2, Section::Words, g, p, pairs) {
-                Part::Refused(number, line) => ReadResult::Refused(number, line),
-                Part::Read(w, c3) => match sections::read(text, c3, Section::Events, g, p, events) {
-                    Part::Refused(number, line) => ReadResult::Refused(number, line),
-                    Part::Read(e, c4) => match sections::read(
-                        text,
-                        c4,
-                        Section::Questions,
-                        g,
-                        p,
-                        questions,
-                    ) {
-                        Part::Refused(number, line) => ReadResult::Refused(number, line),
-                        Part::Read(q, c5) => finish(
-                            text,
-                            c5,
-                            ReadResult::Accepted {
-                                frames: g,
-                                processors: p,
-                                words: w,
-                                events: e,
-                                questions: q,
-                            },
-                        ),
-                    },
-                },
-            },
-        },
-    }
+    let frames = sections::read(text, start, Section::Map, 0, 0, map);
+    let g = count_of(frames);
+    let roots = read_next(text, frames, Section::Cr3s, g, 0, cr3s);
+    let p = count_of(roots);
+    let words = read_next(text, roots, Section::Words, g, p, pairs);
+    let steps = read_next(text, words, Section::Events, g, p, events);
+    let asked = read_next(text, steps, Section::Questions, g, p, questions);
+    let counts = ReadResult::Accepted {
+        frames: g,
+        processors: p,
+        words: count_of(words),
+        events: count_of(steps),
+        questions: count_of(asked),
+    };
+    finish(text, asked, counts)
 }
 
 fn clear(words: &mut [u64], n: usize)

@@ -1,30 +1,47 @@
--- Past the blanks stands the end, or what is left over.
-use mathlib.Core.Path.{_≡_, sym, ap, _∙_}
+-- A refusal stays; after the last section stands the end, past the blanks, or what is left over.
+use mathlib.Core.Path.{_≡_, refl, sym, ap, _∙_}
 use native.Mathlib.Omega.{arith}
 use lib.ListN.{length}
 use borrow.Author.Needs.{needs}
 use borrow.Author.Tests.{eq-eqb, ne-eqb}
+use mathlib.Mathlib.Logic.Function.Defs.{id as at}
 use Rattle.cursor.specs.declared.Cursor.{Cursor}
-use Rattle.cursor.specs.Text.{pastBlanks}
+use Rattle.cursor.specs.Text.{Stands, pastBlanks}
 use Rattle.cursor.proofs.DigitRuns.{here-inside}
 use Rattle.puzzle.specs.declared.ReadResult.the-variants.{Refused}
+use Rattle.puzzle.proofs.Cases.{end-by}
 use Rattle.puzzle.proofs.finish.Statement.{statement}
 use Rattle.puzzle.proofs.finish.Tie as tie
 
 returns : tie.Need-returns
 returns c =
-    let a = c .before .before .before .before .args in
-    let e = c .before .before .skip-from .ensures in
-    let at : c .before .before .skip-from .result .at ≡ pastBlanks (a .text .now) (a .c .at) = ap (λ (k : Cursor). k .at) e in
-    ap (λ (k : Cursor). Refused 10 (k .line)) e
-    ∙ sym (simp (ne-eqb (pastBlanks (a .text .now) (a .c .at)) (length (a .text .now)) (λ z. omega (arith, at, z, c .if1 .taken))))
+    let text = at {A = tie.Start} (search) .args .text .now in
+    let last : tie.After-last2 = search in
+    let from = last .last2 .given .0 .1 .0 .at in
+    let e = at {A = tie.After-skip-from} (search) .skip-from .ensures in
+    let past = ap (λ (k : Cursor). k .at) e in
+    end-by (last .last2 .given .1)
+    (ap (λ (k : Cursor). Refused 10 (k .line)) e
+    ∙ sym (simp (ne-eqb (pastBlanks text from) (length text) (λ z. omega (arith, past, z, c .if1 .taken)))))
 
-returns-2 : tie.Need-returns-2
-returns-2 c =
-    let a = c .before .before .before .before .args in
-    let e = c .before .before .skip-from .ensures in
-    let at : c .before .before .skip-from .result .at ≡ pastBlanks (a .text .now) (a .c .at) = ap (λ (k : Cursor). k .at) e in
-    sym (simp (eq-eqb (pastBlanks (a .text .now) (a .c .at)) (length (a .text .now)) (omega (arith, at, c .if1 .left, here-inside (a .text .now) (a .c .at) e (c .before .before .before .before .pre .inside)))))
+returns-3 : tie.Need-returns-3
+returns-3 c =
+    let s : tie.Start = search in
+    let text = s .args .text .now in
+    let last : tie.After-last2 = search in
+    let from = last .last2 .given .0 .1 .0 .at in
+    let e = at {A = tie.After-skip-from} (search) .skip-from .ensures in
+    let past = ap (λ (k : Cursor). k .at) e in
+    end-by (last .last2 .given .1)
+    (sym (simp (eq-eqb (pastBlanks text from) (length text) (omega (arith, past, c .if1 .left, here-inside text from e (s .pre .stands (last .last2 .given .1) .inside))))))
 
 pub finish-spec : {M : Type 1} → statement M
-finish-spec = tie.close (tie.spec (λ c κs. search needs) returns returns-2)
+finish-spec =
+    tie.close
+    (tie.spec
+    (λ c. search needs)
+    (λ c. search needs)
+    (λ c κs. at {A = tie.Start} (search) .pre .stands (at {A = tie.After-last2} (search) .last2 .given .1))
+    returns
+    (λ c. end-by (at {A = tie.After-last} (search) .last .given .1) refl)
+    returns-3)
