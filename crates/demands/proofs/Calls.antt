@@ -32,7 +32,7 @@ use Rattle.puzzle.specs.declared.ReadResult.the-variants.{Refused as Unread}
 use Rattle.puzzle.specs.Buffers.{Buffers, After, answer, sized, readCall}
 use Rattle.puzzle.proofs.Theorems.{ten-or-eleven}
 use Rattle.trainer.specs.declared.Written.{Written}
-use Rattle.trainer.specs.Call.{Lines}
+use Rattle.trainer.specs.Call.{puzzleIn, toldOf, Lines}
 use Rattle.flamecurl.specs.Exports.{listNumbers, eventNumbers, readNumbers, writtenNumbers, ListExport, SetupExport, EventExport, ReadExport, PrintExport}
 use Rattle.demands.specs.Refuses.{Refuses, readNumber, readLine}
 use Rattle.demands.proofs.Given.{given, refuses, setup-refused, setup-done, setup-number, event-refused, event-number}
@@ -156,15 +156,20 @@ read-refuses text before last c =
 
 -- ---- `answers` and `run`
 
+-- a text that is refused is no refusal of the call
+told-zero : (g : Got Puzzle) (n : ℕ) → getD (writtenNumbers (toldOf g n)) 0 0 ≡ 0
+told-zero (got z at) n = refl
+told-zero (refused number line) n = refl
+
 pub print-refuses : (Of : Lines) (text before last : List ℕ) {answer told : List ℕ} {n : ℕ} → PrintExport Of text before last answer n told
-    → Refuses 2 (cond (eqb (length before) 16384) 0 1) (0 ∷ []) before last answer n told
+    → Refuses 4 (cond (eqb (length before) 16384) 0 1) (0 ∷ 0 ∷ 0 ∷ []) before last answer n told
 print-refuses Of text before last {answer} {told} {n} c = go (ℕ-discrete (length before) 16384)
   where
-    go : Dec (length before ≡ 16384) → Refuses 2 (cond (eqb (length before) 16384) 0 1) (0 ∷ []) before last answer n told
+    go : Dec (length before ≡ 16384) → Refuses 4 (cond (eqb (length before) 16384) 0 1) (0 ∷ 0 ∷ 0 ∷ []) before last answer n told
     go (yes h) =
         let right : _≡_ {A = ℕ} (cond (eqb (length before) 16384) 0 1) 0 = simp (eq-eqb (length before) 16384 h) in
-        refuses c (omega (arith, right)) (λ r g. ap (λ (w : Written). getD (writtenNumbers w) 0 0) (g .printed h .counted) ∙ sym right) (λ r g some. absurd (some right))
+        refuses c (omega (arith, right)) (λ r g. ap (λ (w : Written). getD (writtenNumbers w) 0 0) (g .printed h .counted) ∙ told-zero (puzzleIn text) _ ∙ sym right) (λ r g some. absurd (some right))
     go (no h) =
         let other : _≡_ {A = ℕ} (cond (eqb (length before) 16384) 0 1) 1 = simp (ne-eqb (length before) 16384 h) in
         refuses c (omega (arith, other)) (λ r g. ap (λ (w : Written). getD (writtenNumbers w) 0 0) (g .refused h .0) ∙ sym other)
-        (λ r g some. (g .refused h .1, ap writtenNumbers (g .refused h .0) ∙ ap (λ (m : ℕ). m ∷ 0 ∷ []) (sym other)))
+        (λ r g some. (g .refused h .1, ap writtenNumbers (g .refused h .0) ∙ ap (λ (m : ℕ). m ∷ 0 ∷ 0 ∷ 0 ∷ []) (sym other)))

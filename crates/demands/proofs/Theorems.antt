@@ -57,11 +57,11 @@ pub read-refuses : (text : List ℕ) (before after : Buffers) (answer told : Lis
 read-refuses text before after answer told n = calls.read-refuses text before after
 
 pub answers-refuses : (text before after : List ℕ) (answer told : List ℕ) (n : ℕ) → PrintExport AnswersOf text before after answer n told
-    → Refuses 2 (cond (eqb (length before) 16384) 0 1) (0 ∷ []) before after answer n told
+    → Refuses 4 (cond (eqb (length before) 16384) 0 1) (0 ∷ 0 ∷ 0 ∷ []) before after answer n told
 answers-refuses text before after answer told n = calls.print-refuses AnswersOf text before after
 
 pub run-refuses : (text before after : List ℕ) (answer told : List ℕ) (n : ℕ) → PrintExport RunOf text before after answer n told
-    → Refuses 2 (cond (eqb (length before) 16384) 0 1) (0 ∷ []) before after answer n told
+    → Refuses 4 (cond (eqb (length before) 16384) 0 1) (0 ∷ 0 ∷ 0 ∷ []) before after answer n told
 run-refuses text before after answer told n = calls.print-refuses RunOf text before after
 
 -- setup has no answer buffer
