@@ -13,6 +13,7 @@ use Rattle.paging.specs.Walk.{start, step}
 use Rattle.paging.proofs.Indices.{index-small}
 use Rattle.paging.proofs.Rights.{meet-small}
 use Rattle.paging.proofs.Steps.{Goes, goes}
+use mathlib.Mathlib.Logic.Function.Defs.{id as at}
 use Rattle.tables.specs.Steps.{byStep, walkFrom, walkGuest}
 use Rattle.tables.proofs.Walks.{walk-step, walk-end}
 use Rattle.tables.proofs.walk_guest.Statement.{statement}
@@ -26,65 +27,76 @@ Inv-loop words₀ frames page last₀ w₀ words last w =
 abbrev μ-loop : tie.MeasureT-loop
 μ-loop words₀ frames page last₀ w₀ words last w = w .level
 
+-- the way back, each path once
+abbrev turn : tie.After-step Inv-loop μ-loop → tie.At-loop Inv-loop μ-loop
+turn c = c .before .before .before .before .before .before .before
+
+abbrev begun : tie.After-step Inv-loop μ-loop → tie.Start Inv-loop μ-loop
+begun c = turn c .before .before .before
+
 loop-holds : tie.Need-loop-holds Inv-loop μ-loop
 loop-holds c =
-    let a = c .before .before .args in
+    let s : tie.Start Inv-loop μ-loop = search in
+    let a = s .args in
     let e = c .start .ensures in (
       omega (arith, ap (λ (w : Walk). w .level) e),
       omega (arith, ap (λ (w : Walk). w .rights) e),
-      omega (arith, ap (λ (w : Walk). w .frame .0) e, c .before .before .pre .1),
+      omega (arith, ap (λ (w : Walk). w .frame .0) e, s .pre .1),
       refl,
       ap (λ (w : Walk). walkFrom tables64 (a .frames) (a .page) (w .level) (a .words .now) (a .cr3) w) e,
     )
 
 -- the word that is read is the entry that the walk has come to
-at-entry : (c : tie.After-step Inv-loop μ-loop)
-    → c .before .entry-at .result ≡ get tables64 (c .before .before .before .before .before .before .before .loop .words) (c .before .before .before .before .before .before .before .loop .w .frame .0) (index tables64 (c .before .before .before .before .before .before .before .before .before .before .args .page) (c .before .before .before .before .before .before .before .loop .w .level))
-at-entry c = c .before .entry-at .ensures ∙ ap (get tables64 (c .before .before .before .before .before .before .before .loop .words) (c .before .before .before .before .before .before .before .loop .w .frame .0)) (c .before .before .before .index-of .ensures)
+at-entry : (c : tie.After-step Inv-loop μ-loop) → let l = turn c .loop in
+    c .before .entry-at .result ≡ get tables64 (l .words) (l .w .frame .0) (index tables64 (begun c .args .page) (l .w .level))
+at-entry c = c .before .entry-at .ensures ∙ ap (get tables64 (turn c .loop .words) (turn c .loop .w .frame .0)) (at {A = tie.After-index-of Inv-loop μ-loop} (search) .index-of .ensures)
 
 -- where the walk goes on to
 gone : (c : tie.After-step Inv-loop μ-loop) (w′ : Walk) → c .step .result ≡ On w′
-    → Goes tables64 (c .before .before .before .before .before .before .before .before .before .before .args .frames) (c .before .before .before .before .before .before .before .loop .w) (c .before .entry-at .result) w′
-gone c w′ q = goes tables64 (c .before .before .before .before .before .before .before .before .before .before .args .frames) (c .before .before .before .before .before .before .before .loop .w) (c .before .entry-at .result) w′ (sym (c .step .ensures) ∙ q)
+    → Goes tables64 (begun c .args .frames) (turn c .loop .w) (c .before .entry-at .result) w′
+gone c w′ q = goes tables64 (begun c .args .frames) (turn c .loop .w) (c .before .entry-at .result) w′ (sym (c .step .ensures) ∙ q)
 
 loop-less : tie.Need-loop-less Inv-loop μ-loop
 loop-less c =
-    let g = gone (c .before .before .before .before .before .before .before .before) (c .before .before .before .before .before .before .next .given .0 .0) (c .before .before .before .before .before .before .next .given .1) in
+    let next = at {A = tie.After-next Inv-loop μ-loop} (search) .next in
+    let g = gone (at {A = tie.After-step Inv-loop μ-loop} (search)) (next .given .0 .0) (next .given .1) in
     omega (arith, ap (λ (w : Walk). w .level) (g .is), g .partial)
 
 loop-again : tie.Need-loop-again Inv-loop μ-loop
 loop-again c =
-    let a = c .before .before .before .before .before .before .before .before .before .before .before .before .before .before .before .before .before .before .args in
-    let l = c .before .before .before .before .before .before .before .before .before .before .before .before .before .before .before .loop in
-    let w′ = c .before .before .before .before .before .before .next .given .0 .0 in
-    let e = c .before .before .before .before .before .before .before .before .before .entry-at .result in
-    let q = c .before .before .before .before .before .before .next .given .1 in
-    let g = gone (c .before .before .before .before .before .before .before .before) w′ q in
+    let written = at {A = tie.After-write-entry Inv-loop μ-loop} (search) .write-entry in
+    let accessed = at {A = tie.After-set-accessed Inv-loop μ-loop} (search) .set-accessed .ensures in
+    let q = at {A = tie.After-next Inv-loop μ-loop} (search) .next .given .1 in
+    let step : tie.After-step Inv-loop μ-loop = search in
+    let a = begun step .args in
+    let l = turn step .loop in
+    let w′ = at {A = tie.After-next Inv-loop μ-loop} (search) .next .given .0 .0 in
+    let g = gone step w′ q in
     let level = ap (λ (w : Walk). w .level) (g .is) in (
       omega (arith, level, l .inv .0),
-      omega (arith, ap (λ (w : Walk). w .rights) (g .is), meet-small (l .w .rights) (rightsOf tables64 e)),
-      omega (arith, ap (λ (w : Walk). w .frame .0) (g .is), g .inside, c .before .before .before .before .before .before .before .before .before .before .before .before .before .before .before .before .before .before .pre .0),
-      c .before .before .write-entry .kept .0 ∙ l .inv .3,
+      omega (arith, ap (λ (w : Walk). w .rights) (g .is), meet-small (l .w .rights) (rightsOf tables64 (step .before .entry-at .result))),
+      omega (arith, ap (λ (w : Walk). w .frame .0) (g .is), g .inside, begun step .pre .0),
+      written .kept .0 ∙ l .inv .3,
       ap (λ (x : List ℕ). walkFrom tables64 (a .frames) (a .page) (w′ .level) x (l .w .frame) w′)
-          (c .before .before .write-entry .ensures ∙ ap₂ (put tables64 (l .words) (l .w .frame .0)) (c .before .before .before .before .before .before .before .before .before .before .before .index-of .ensures) (c .before .before .before .set-accessed .ensures))
-          ∙ walk-step tables64 (a .frames) (a .page) (l .words) (l .last) (l .w) (l .w .level) (w′ .level) (omega (arith, level, g .partial)) (at-entry (c .before .before .before .before .before .before .before .before)) (sym (c .before .before .before .before .before .before .before .before .step .ensures) ∙ q)
+          (written .ensures ∙ ap₂ (put tables64 (l .words) (l .w .frame .0)) (at {A = tie.After-index-of Inv-loop μ-loop} (search) .index-of .ensures) accessed)
+          ∙ walk-step tables64 (a .frames) (a .page) (l .words) (l .last) (l .w) (l .w .level) (w′ .level) (omega (arith, level, g .partial)) (at-entry step) (sym (step .step .ensures) ∙ q)
           ∙ l .inv .4,
     )
 
 -- the walk ends at its entry
-ended : (c : tie.After-step Inv-loop μ-loop) (r : Step) → c .step .result ≡ r
-    → byStep (c .before .before .before .before .before .before .before .loop .words) (c .before .before .before .before .before .before .before .loop .last) (c .before .before .before .before .before .before .before .loop .w) (λ w′. walkFrom tables64 (c .before .before .before .before .before .before .before .before .before .before .args .frames) (c .before .before .before .before .before .before .before .before .before .before .args .page) (c .before .before .before .before .before .before .before .loop .w .level - 1) (put tables64 (c .before .before .before .before .before .before .before .loop .words) (c .before .before .before .before .before .before .before .loop .w .frame .0) (index tables64 (c .before .before .before .before .before .before .before .before .before .before .args .page) (c .before .before .before .before .before .before .before .loop .w .level)) (withA (c .before .entry-at .result))) (c .before .before .before .before .before .before .before .loop .w .frame) w′) r
-    ≡ walkGuest tables64 (c .before .before .before .before .before .before .before .before .before .before .args .frames) (c .before .before .before .before .before .before .before .before .before .before .args .page) (c .before .before .before .before .before .before .before .before .before .before .args .words .now) (c .before .before .before .before .before .before .before .before .before .before .args .cr3)
+ended : (c : tie.After-step Inv-loop μ-loop) (r : Step) → c .step .result ≡ r → let l = turn c .loop in let a = begun c .args in
+    byStep (l .words) (l .last) (l .w) (λ w′. walkFrom tables64 (a .frames) (a .page) (l .w .level - 1) (put tables64 (l .words) (l .w .frame .0) (index tables64 (a .page) (l .w .level)) (withA (c .before .entry-at .result))) (l .w .frame) w′) r
+    ≡ walkGuest tables64 (a .frames) (a .page) (a .words .now) (a .cr3)
 ended c r q =
-    let a = c .before .before .before .before .before .before .before .before .before .before .args in
-    let l = c .before .before .before .before .before .before .before .loop in
+    let a = begun c .args in
+    let l = turn c .loop in
     walk-step tables64 (a .frames) (a .page) (l .words) (l .last) (l .w) (l .w .level) (l .w .level - 1) (omega arith) (at-entry c) (sym (c .step .ensures) ∙ q)
     ∙ l .inv .4
 
 returns-4 : tie.Need-returns-4 Inv-loop μ-loop
 returns-4 c =
-    let a = c .before .before .before .before .before .args in
-    let l = c .before .before .loop in
+    let a = at {A = tie.Start Inv-loop μ-loop} (search) .args in
+    let l = at {A = tie.At-loop Inv-loop μ-loop} (search) .loop in
     walk-end tables64 (a .frames) (a .page) (l .words) (l .last) (l .w) (l .w .level) (omega arith) ∙ l .inv .4
 
 pub walk-guest-spec : {M : Type 1} → statement M
@@ -95,22 +107,22 @@ walk-guest-spec =
     μ-loop
     (λ c κs. tt)
     loop-holds
-    (λ c κs. omega (arith, c .before .before .before .loop .inv .0))
-    (λ c κs. (c .before .before .before .before .before .loop .inv .2, omega (arith, c .before .index-of .ensures, index-small tables64 (c .before .before .before .before .before .before .before .before .args .page) (c .before .before .before .before .before .loop .w .level))))
-    (λ c κs. c .before .before .before .before .before .before .loop .inv .1)
+    (λ c κs. omega (arith, at {A = tie.At-loop Inv-loop μ-loop} (search) .loop .inv .0))
+    (λ c κs. let l = at {A = tie.At-loop Inv-loop μ-loop} (search) .loop in (l .inv .2, omega (arith, c .before .index-of .ensures, index-small tables64 (at {A = tie.Start Inv-loop μ-loop} (search) .args .page) (l .w .level))))
+    (λ c κs. at {A = tie.At-loop Inv-loop μ-loop} (search) .loop .inv .1)
     (λ c. search needs)
     (λ c κs. tt)
-    (λ c κs. (c .before .before .before .before .before .before .before .before .before .before .before .before .loop .inv .2, omega (arith, c .before .before .before .before .before .before .before .before .index-of .ensures, index-small tables64 (c .before .before .before .before .before .before .before .before .before .before .before .before .before .before .before .args .page) (c .before .before .before .before .before .before .before .before .before .before .before .before .loop .w .level))))
+    (λ c κs. let l = at {A = tie.At-loop Inv-loop μ-loop} (search) .loop in (l .inv .2, omega (arith, at {A = tie.After-index-of Inv-loop μ-loop} (search) .index-of .ensures, index-small tables64 (at {A = tie.Start Inv-loop μ-loop} (search) .args .page) (l .w .level))))
     loop-less
     loop-again
     (λ c. search needs)
-    (λ c. c .before .before .before .before .before .before .before .before .before .loop .inv .3)
-    (λ c. ended (c .before .before) Absent (c .enum-told .given .1))
+    (λ c. at {A = tie.At-loop Inv-loop μ-loop} (search) .loop .inv .3)
+    (λ c. ended (at {A = tie.After-step Inv-loop μ-loop} (search)) Absent (c .enum-told .given .1))
     (λ c. search needs)
-    (λ c. c .before .before .before .before .before .before .before .before .before .loop .inv .3)
-    (λ c. ended (c .before .before) Beyond (c .enum-told2 .given .1))
+    (λ c. at {A = tie.At-loop Inv-loop μ-loop} (search) .loop .inv .3)
+    (λ c. ended (at {A = tie.After-step Inv-loop μ-loop} (search)) Beyond (c .enum-told2 .given .1))
     (λ c. search needs)
-    (λ c. c .before .before .before .before .before .before .before .before .before .loop .inv .3)
-    (λ c. ended (c .before .before) Complete (c .enum-told3 .given .1))
-    (λ c. c .before .before .loop .inv .3)
+    (λ c. at {A = tie.At-loop Inv-loop μ-loop} (search) .loop .inv .3)
+    (λ c. ended (at {A = tie.After-step Inv-loop μ-loop} (search)) Complete (c .enum-told3 .given .1))
+    (λ c. at {A = tie.At-loop Inv-loop μ-loop} (search) .loop .inv .3)
     returns-4)
