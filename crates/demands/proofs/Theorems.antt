@@ -123,7 +123,12 @@ module _ (z : Sizes) (map cr3s words : List ℕ) (es : List Event) (p : Play z m
       → Alike (getD (p .states k .words) i 0) (getD (wordsAt (guest z map cr3s words es) es k) i 0)
   words-alike = plays.words-alike p
 
--- and where hardware loses slots at any moment besides, for runs of any length (crates/promise/specs/Demand)
+-- and all events that fit are a play: no such call is refused
+pub a-play : (z : Sizes) (map cr3s words : List ℕ) (found : State) → setupRefusal (machine64 z) map cr3s found ≡ 0 → length words ≡ frameWords * z .frames
+    → (es : List Event) → Fit (guest z map cr3s words es) es → Play z map cr3s words es
+a-play = plays.a-play
+
+-- the same where hardware loses slots at any moment besides, for runs of any length (crates/promise/specs/Demand)
 
 pub every-event-taken : Accepts tables64
 every-event-taken = promise.every-event-taken tables64 laid64
