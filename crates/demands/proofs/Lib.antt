@@ -1,4 +1,5 @@
 pub mod Given
+pub mod Setups
 pub mod Calls
 pub mod Plays
 pub mod PlayLists

@@ -18,7 +18,7 @@ use Rattle.promise.specs.Demand.{place, code}
 use Rattle.promise.proofs.Theorems.{demand-three}
 use Rattle.flamecurl.specs.Exports.{eventNumbers}
 use Rattle.demands.specs.Play.{Play, Says, address, fault, Ends, EndsInTwo}
-use Rattle.demands.proofs.Plays.{fresh, run, setup-fits, events-fit, long, told-is}
+use Rattle.demands.proofs.Plays.{fresh, run, fits-setup, events-fit, long, told-is}
 use Rattle.demands.proofs.PlayLists.{lists-given}
 
 module _ {z : Sizes} {map cr3s words : List ℕ} {es : List Event} (p : Play z map cr3s words es) where
@@ -41,7 +41,7 @@ module _ {z : Sizes} {map cr3s words : List ℕ} {es : List Event} (p : Play z m
   -- EVERY ACCESS ENDS IN TWO
   pub ends-in-two : (k : ℕ) → k < length es → T (isAccess (eventAt es k)) → EndsInTwo z map cr3s words es p k
   ends-in-two k h access =
-      go (demand-three tables64 laid64 (fresh p) refl (setup-fits p (long p (omega arith))) (run p) (events-fit p) k h access)
+      go (demand-three tables64 laid64 (fresh p) refl (fits-setup p (long p (omega arith))) (run p) (events-fit p) k h access)
     where
       four : eventAt es k .kind ≡ 4
       four = eqb→eq (eventAt es k .kind) 4 access

@@ -30,7 +30,8 @@ use Rattle.trees.proofs.Entries.{laid64}
 use Rattle.promise.proofs.Started.{ranges}
 use Rattle.demands.specs.Play.{Play, guest, question, Lists}
 use Rattle.demands.proofs.Calls.{told-count}
-use Rattle.demands.proofs.Plays.{fresh, guests, starts, frames-fit, cr3s-fit, setup-fits, events-fit}
+use Rattle.demands.proofs.Setups as setups
+use Rattle.demands.proofs.Plays.{fresh, setup-taken, fits-setup, events-fit}
 
 module _ {z : Sizes} {map cr3s words : List ℕ} {es : List Event} (p : Play z map cr3s words es) (long : length words ≡ frameWords * z .frames)
     (k : ℕ) (hk : k < length es) (four : eventAt es k .kind ≡ 4) (few : k ≤ 4096) where
@@ -40,6 +41,12 @@ module _ {z : Sizes} {map cr3s words : List ℕ} {es : List Event} (p : Play z m
   abbrev q : Asked
   q = asked map cr3s numbers (question z map cr3s words es k)
 
+  guests : length map ≡ z .frames
+  guests = setups.guests z map cr3s (p .found) (setup-taken p)
+
+  starts : length cr3s ≡ z .processors
+  starts = setups.starts z map cr3s (p .found) (setup-taken p)
+
   count : length numbers ≡ 4 * k
   count = numbers-length (take k es) ∙ ap (λ (n : ℕ). 4 * n) (length-take-le k es (omega arith))
 
@@ -47,19 +54,19 @@ module _ {z : Sizes} {map cr3s words : List ℕ} {es : List Event} (p : Play z m
   unfolding framesFit
   map-fits =
       let M = machine64 z in
-      let g = both (poolFits M && mapFits (2 ^ 40) map) (all (length map) (λ i. not (inPool M (getD map i 0)))) (frames-fit p) in
+      let g = both (poolFits M && mapFits (2 ^ 40) map) (all (length map) (λ i. not (inPool M (getD map i 0)))) (setups.frames-fit z map cr3s (p .found) (setup-taken p)) in
       both (poolFits M) (mapFits (2 ^ 40) map) (g .0) .1
 
   module _ (b : Lent) (same : b .words ≡ words) (bytes : workBytes (z .frames) ≤ length (b .work)) (room : 2 * (z .frames + 3) ≤ length (b .outcomes)) where
     guest-is : setupAsked q b ≡ guest z map cr3s words es
-    guest-is i = setup64 (guests p i) (starts p i) (same i) cr3s
+    guest-is i = setup64 (guests i) (starts i) (same i) cr3s
 
     sizes : lengthsFit q b ≡ true
     sizes =
-        let r = ranges (fresh p) laid64 (setup-fits p long) in
-        sizes-fit _ _ _ _ _ _ (omega (arith, guests p, r .frames), omega (arith, guests p, r .frames)) (omega (arith, starts p, r .processors), omega (arith, starts p, r .processors))
-        (omega (arith, count)) (omega (arith, count)) (ap length same ∙ long ∙ ap (λ (n : ℕ). frameWords * n) (sym (guests p)))
-        (omega (arith, guests p)) (omega (arith, guests p))
+        let r = ranges (fresh p) laid64 (fits-setup p long) in
+        sizes-fit _ _ _ _ _ _ (omega (arith, guests, r .frames), omega (arith, guests, r .frames)) (omega (arith, starts, r .processors), omega (arith, starts, r .processors))
+        (omega (arith, count)) (omega (arith, count)) (ap length same ∙ long ∙ ap (λ (n : ℕ). frameWords * n) (sym (guests)))
+        (omega (arith, guests)) (omega (arith, guests))
 
     -- its events and its question are within their ranges
     event-fits : (j : ℕ) → j < length numbers / 4 → eventRefusal (setupAsked q b) (eventOf numbers j) ≡ 0
@@ -78,7 +85,7 @@ module _ {z : Sizes} {map cr3s words : List ℕ} {es : List Event} (p : Play z m
     pub list-taken : listRefusal q b ≡ 0
     list-taken =
         let f : ℕ → ℕ = λ j. eventRefusal (setupAsked q b) (eventOf numbers j) in
-        list-later q b sizes map-fits (ap (λ (n : ℕ). cr3sFit n cr3s) (guests p) ∙ cr3s-fit p)
+        list-later q b sizes map-fits (ap (λ (n : ℕ). cr3sFit n cr3s) (guests) ∙ setups.cr3s-fit z map cr3s (p .found) (setup-taken p))
         ∙ or-second (firstRefusal (length numbers / 4) f) (questionRefusal (setupAsked q b) (question z map cr3s words es k)) (first-all (length numbers / 4) f event-fits)
         ∙ question-fits
 

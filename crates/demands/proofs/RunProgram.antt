@@ -8,9 +8,8 @@ use lib.ListN.{length, getD, drop, replicate, length-replicate}
 use Rattle.rules.specs.History.{eventAt}
 use Rattle.rules.specs.Numbers.{eventsOf}
 use Rattle.tables.specs.declared.Sizes.{Sizes}
-use Rattle.tables.specs.State.{Machine, machine64, shadowOf, State, stateOf, Sized}
-use Rattle.shadow.specs.After.{after, started, setupRefusal}
-use Rattle.shadow.proofs.Starting.{accepted-sizes, setup-sized}
+use Rattle.tables.specs.State.{Machine, machine64, shadowOf, State, stateOf}
+use Rattle.shadow.specs.After.{after, started}
 use Rattle.shadow.specs.Runs.{stateAfter, answerOf}
 use Rattle.sections.specs.Sections.{Got, got, Puzzle}
 use Rattle.puzzle.specs.Buffers.{wordsOf}
@@ -19,15 +18,14 @@ use Rattle.trainer.specs.declared.Written.{Written}
 use Rattle.trainer.specs.Call.{puzzleIn, Prints}
 use Rattle.trainer.specs.Run.{sizesOf, answerLine, RunOf}
 use Rattle.trainer.proofs.Turns.{joined-same}
-use Rattle.trainer.proofs.Theorems.{read, starts, fits}
-use Rattle.trees.proofs.Entries.{able64}
+use Rattle.trainer.proofs.Theorems.{read, starts}
 use Rattle.promise.specs.Demand as D
 use Rattle.promise.specs.Demand.{stateAt, answerAt}
 use Rattle.flamecurl.specs.Exports.{writtenNumbers, PrintExport}
+use Rattle.demands.proofs.Setups.{setup-fits}
 use Rattle.demands.proofs.Given.{given}
 use Rattle.demands.specs.RunProgram.{machineFor, runFor, printedFor}
 use Rattle.promise.proofs.Lossless.{none-lost}
-use Rattle.promise.proofs.Begun.{begun-trees, begun-triples}
 
 module _ (z : Puzzle) where
   abbrev M : Machine
@@ -55,27 +53,13 @@ module _ (text : List ℕ) {z : Puzzle} {at : ℕ} (e : puzzleIn text ≡ got z 
   zeros : State
   zeros = stateOf [] (shadowOf (replicate (2048 * P) 0) (replicate (8 * P) 0)) (replicate (24 * P) 0)
 
-  sized : Sized sizes
-  unfolding zeros
-  sized =
-      let ok = starts text e .taken (replicate (2048 * P) 0) (replicate (8 * P) 0) (replicate (24 * P) 0) (length-replicate (2048 * P) 0) (length-replicate (8 * P) 0) (length-replicate (24 * P) 0) in
-      let shown = accepted-sizes (machine64 sizes) (z .map) (z .cr3s) zeros ok in
-      setup-sized sizes (z .map) (z .cr3s) zeros (shown .0) (shown .1)
-
-  abbrev s : State
-  s = D.begun (machineFor z)
-
   -- AN ACCEPTED TEXT'S MACHINE IS WITHIN THE RANGES
   pub run-sized : D.SetupFits (machineFor z)
-  unfolding setupRefusal
+  unfolding zeros
   run-sized =
-      let exact = begun-trees (machine64 sizes) (able64 sizes sized) (z .cr3s) (wordsOf z) (z .map) (fits text e .starts) .exact in
-      record {
-        setup =
-            starts text e .taken (s .shadow .pool) (s .shadow .records) (s .slots) (omega (arith, exact .words)) (omega (arith, exact .pairs))
-            (begun-triples (machine64 sizes) (able64 sizes sized) (z .cr3s) (wordsOf z));
-        words = words-long text (read text e);
-      }
+      setup-fits sizes (z .map) (z .cr3s) zeros
+      (starts text e .taken (replicate (2048 * P) 0) (replicate (8 * P) 0) (replicate (24 * P) 0) (length-replicate (2048 * P) 0) (length-replicate (8 * P) 0) (length-replicate (24 * P) 0))
+      (wordsOf z) (words-long text (read text e))
 
   -- WHAT `run` PRINTS ARE THE ANSWERS OF THAT RUN
   pub run-prints : (before after : List ℕ) {answer told : List ℕ} → PrintExport RunOf text before after answer 0 told → after ≡ printedFor z ++ drop (length (printedFor z)) before

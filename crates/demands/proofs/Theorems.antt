@@ -20,21 +20,21 @@ use Rattle.tables.specs.Steps.{freeCount, emptyShare}
 use Rattle.lawful.specs.Rules.{lawful}
 use Rattle.shadow.specs.declared.Answer.the-variants.{Refused}
 use Rattle.shadow.specs.After.{callRefusal, decode, moved, setupRefusal, started}
-use Rattle.shadow.proofs.Theorems as shadow
 use Rattle.trees.proofs.Entries.{laid64}
 use Rattle.sections.specs.Sections.{got, Puzzle}
 use Rattle.puzzle.specs.Buffers.{Buffers}
 use Rattle.trainer.specs.Call.{puzzleIn}
 use Rattle.trainer.specs.Answers.{AnswersOf}
 use Rattle.trainer.specs.Run.{RunOf}
-use Rattle.trainer.proofs.Theorems as trainer
 use Rattle.promise.specs.Demand.{Accepts, Demand, SettlesInTwo, answerAt}
-use Rattle.promise.proofs.Theorems as promise
 use Rattle.flamecurl.specs.Exports.{eventNumbers, ListExport, SetupExport, EventExport, ReadExport, PrintExport}
-use Rattle.flamecurl.proofs.Theorems as flamecurl
 use Rattle.demands.specs.Refuses.{Refuses, readNumber, readLine}
 use Rattle.demands.specs.Play.{Play, guest, EndsInTwo}
 use Rattle.demands.specs.RunProgram.{machineFor, runFor, printedFor}
+use Rattle.shadow.proofs.Theorems as shadow
+use Rattle.trainer.proofs.Theorems as trainer
+use Rattle.promise.proofs.Theorems as promise
+use Rattle.flamecurl.proofs.Theorems as flamecurl
 use Rattle.demands.proofs.Calls as calls
 use Rattle.demands.proofs.Plays as plays
 use Rattle.demands.proofs.PlayEnds as ends
@@ -123,7 +123,12 @@ module _ (z : Sizes) (map cr3s words : List ℕ) (es : List Event) (p : Play z m
       → Alike (getD (p .states k .words) i 0) (getD (wordsAt (guest z map cr3s words es) es k) i 0)
   words-alike = plays.words-alike p
 
--- and where hardware loses slots at any moment besides, for runs of any length (crates/promise/specs/Demand)
+-- and all events that fit are a play: no such call is refused
+pub a-play : (z : Sizes) (map cr3s words : List ℕ) (found : State) → setupRefusal (machine64 z) map cr3s found ≡ 0 → length words ≡ frameWords * z .frames
+    → (es : List Event) → Fit (guest z map cr3s words es) es → Play z map cr3s words es
+a-play = plays.a-play
+
+-- the same where hardware loses slots at any moment besides, for runs of any length (crates/promise/specs/Demand)
 
 pub every-event-taken : Accepts tables64
 every-event-taken = promise.every-event-taken tables64 laid64

@@ -1,6 +1,6 @@
 -- The known runs meet the hypotheses of demand 3, and their answers are computed. Document 01's own has both branches.
 use mathlib.Core.Path.{_≡_, refl, sym, ap, _∙_}
-use mathlib.Core.Bool.{Bool, true, false, _&&_}
+use mathlib.Core.Bool.{Bool, true, _&&_}
 use mathlib.Core.List.{List}
 use mathlib.Core.Logic.{inl, inr}
 use Prim.Native.Nat.{ℕ, zero, suc, _*_, _≤_, _<_}

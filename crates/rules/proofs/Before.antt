@@ -2,10 +2,10 @@
 use mathlib.Core.Path.{_≡_, refl, sym, _∙_, ap, ap₂}
 use mathlib.Core.Logic.{_↔_, Iff·trans}
 use mathlib.Core.Bool.{Bool, _||_}
-use mathlib.Core.List.{List, [], _∷_}
+use mathlib.Core.List.{List}
 use Prim.Native.Nat.{ℕ, zero, suc, _≤_, _<_}
 use native.Mathlib.Omega.{arith}
-use lib.ListN.{length, take}
+use lib.ListN.{take}
 use Rattle.paging.specs.declared.Walk.{Walk}
 use Rattle.paging.specs.declared.Request.{Request}
 use Rattle.paging.specs.Layout.{pageOf, get, index}
@@ -19,9 +19,10 @@ use Rattle.rules.specs.History.{Setup, eventAt, wordsAt, cr3At, stored, 
 use Rattle.rules.specs.View.{View, viewOf, never, endsPartialOf, endsCompleteOf}
 use Rattle.rules.specs.Outcome.{Permitted, RightList, RightAt}
 use Rattle.rules.specs.Coherent.{Coherent}
-use Rattle.rules.specs.Kept.{byLevel, Kept, begin, extend, stay}
+use Rattle.rules.specs.Kept.{Kept, begin, extend, stay}
 use Rattle.rules.proofs.Views.{coherent}
 use Rattle.rules.proofs.Steps.{held-is-kept}
+use lib.Seq.{getD-take}
 
 -- ---- two views that agree up to moment n
 
@@ -89,19 +90,12 @@ module _ (U : Setup) (es ds : List Event) where
     completes = λ k h. ap₂ _||_ (dropped k h) (ap (endsCompleteOf (U .tables) p v) (same k h));
   }
 
--- the first n of at least n events
-taken : (n : ℕ) (es : List Event) → Alike es (take n es) n
-taken zero es k h = absurd (omega arith)
-taken (suc n) [] k h = refl
-taken (suc n) (e ∷ es) zero h = refl
-taken (suc n) (e ∷ es) (suc k) h = taken n es k (omega arith)
-
 -- THE LIST AT MOMENT n IS THAT OF THE FIRST n EVENTS
 pub list-before : (U : Setup) (es : List Event) (q : Question) → Sound (U .tables) → (n : ℕ) (os : List Outcome)
     → RightAt U es q n os ↔ RightAt U (take n es) q n os
 list-before U es q ok n os =
     let v = pageOf (U .tables) (q .addr) in
-    let there = views-alike U es (take n es) (q .proc) v n never never (taken n es) (λ k h. refl) in
+    let there = views-alike U es (take n es) (q .proc) v n never never (λ k h. sym (getD-take n es k _ h)) (λ k h. refl) in
     let law = coherent U es (q .proc) v never ok in
     let law′ = coherent U (take n es) (q .proc) v never ok in
     let r = requestOf (U .tables) (q .request) in
