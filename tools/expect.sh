@@ -18,12 +18,16 @@ judge() { # STATUS NAME
 
 lines_of() { if [ -n "$1" ]; then printf '%s\n' "$1"; fi; }
 
-# Runs a command and wants this exit status, this standard output and this standard error, all of it.
+# Runs a command, for five minutes at most, and wants this exit status, this standard output and this standard error.
 expect() { # NAME STATUS OUTPUT ERROR COMMAND..
     name=$1
     printf 'status %s\noutput:\n%s\nerror:\n%s\n' "$2" "$(lines_of "$3")" "$(lines_of "$4")" >"$room/wanted"
     shift 4
-    "$@" >"$room/output" 2>"$room/error"
+    # a function of the script has no path, and no limit
+    case $(command -v "$1") in
+        */*) timeout 300 "$@" >"$room/output" 2>"$room/error" ;;
+        *) "$@" >"$room/output" 2>"$room/error" ;;
+    esac
     printf 'status %s\noutput:\n%s\nerror:\n%s\n' "$?" "$(cat "$room/output")" "$(cat "$room/error")" >"$room/found"
     diff -u "$room/wanted" "$room/found"
     judge $? "$name"
