@@ -13,7 +13,7 @@ use Rattle.paging.specs.Layout.{frameWords}
 use Rattle.rules.specs.declared.Event.{Event}
 use Rattle.rules.specs.Refusal.{test, refusal}
 use Rattle.rules.specs.History.{eventRefusal}
-use Rattle.tables.specs.State.{Machine, State, tableCount}
+use Rattle.tables.specs.State.{Machine, State, tableCount, recordSize}
 use Rattle.lawful.specs.Rules.{lawful}
 use Rattle.shadow.specs.After.{asSetup, rangesFit, lengthsFit, framesFit, callRefusal}
 use Rattle.shadow.proofs.Sizing.{Ranged}
@@ -47,7 +47,7 @@ module _ (M : Machine) (map : List ℕ) (s : State) (ok : Able M) (ranged : Rang
       simp (
         eq-eqb (length map) (M .frames) (fits .guests),
         eq-eqb (length (s .shadow .pool)) (frameWords * tableCount M) (r .law .trees .exact .words),
-        eq-eqb (length (s .shadow .records)) (2 * tableCount M) (r .law .trees .exact .pairs),
+        eq-eqb (length (s .shadow .records)) (recordSize * tableCount M) (r .law .trees .exact .pairs),
         eq-eqb (length (s .slots)) (24 * M .processors) (r .triples),
       )
 

@@ -15,14 +15,14 @@ use Rattle.paging.specs.Request.{requestOf, enough}
 use Rattle.paging.specs.Walk.{meet, start}
 use Rattle.paging.specs.Sound.{Sound}
 use Rattle.paging.proofs.Indices.{index-small}
+use Rattle.paging.proofs.Numbers.{first-passes}
 use Rattle.tables.specs.declared.Path.{Path}
 use Rattle.tables.specs.declared.Walked.{Walked}
 use Rattle.tables.specs.declared.Walked.the-variants.{Whole, Fault}
 use Rattle.tables.specs.State.{Machine, State, stateOf, slotCount, placeIn, shadows, rootOf, nextEntry, pathTo}
 use Rattle.tables.specs.Steps.{GuestWalk, walkGuest, slotServes, servingSlot}
 use Rattle.shadow.specs.declared.Answer.the-variants.{Address, Fault as Faulted, Again}
-use Rattle.shadow.specs.After.{Result, gives, valueAt, isWrite, dirtied, fill, afterAccess, afterMiss, afterWalk}
-use Rattle.trees.proofs.Counts.{first-passes}
+use Rattle.shadow.specs.After.{Result, gives, valueAt, isWrite, dirtied, fill, faulted, afterAccess, afterMiss, afterWalk}
 use Rattle.trees.proofs.Trees.{Able}
 use Rattle.trees.proofs.Settles.{Leads}
 use Rattle.keeps.proofs.Alikes.{Same, same-refl, same-sym, same-trans, same-with-bit}
@@ -78,8 +78,8 @@ module _ (M : Machine) (map : List ℕ) (p a b : ℕ) (s : State) where
         → out ≡ gives (Address (valueAt (hostOf map (guest (placeIn (s .slots) p k))) a)) s → Way out
     shadow : isPresent end ≡ true → enough q (meet (path .rights) (rightsOf (M .tables) end)) ≡ true
         → out ≡ gives (Address (valueAt (host (frameOf (M .tables) end)) a)) s → Way out
-    fault : (base : ℕ) → walked .ended ≡ Fault base → out ≡ gives (Faulted (base + q .adds)) walkedOver → Way out
-    lacks : (last : Guest) (w : Walk) → walked .ended ≡ Whole last w → enough q (w .rights) ≡ false → out ≡ gives (Faulted (1 + q .adds)) walkedOver → Way out
+    fault : (base : ℕ) → walked .ended ≡ Fault base → out ≡ gives (Faulted (base + q .adds)) (faulted M p page walkedOver) → Way out
+    lacks : (last : Guest) (w : Walk) → walked .ended ≡ Whole last w → enough q (w .rights) ≡ false → out ≡ gives (Faulted (1 + q .adds)) (faulted M p page walkedOver) → Way out
     again : (last : Guest) (w : Walk) → walked .ended ≡ Whole last w → enough q (w .rights) ≡ true → out ≡ gives Again (fill M map p page (written last)) → Way out
 
   miss : Way (afterMiss M map p page q s)
@@ -87,7 +87,7 @@ module _ (M : Machine) (map : List ℕ) (p a b : ℕ) (s : State) where
   miss = go (walked .ended) refl
     where
       by : (last : Guest) (w : Walk) → walked .ended ≡ Whole last w → (c : Bool) → enough q (w .rights) ≡ c
-          → Way (cond c (gives Again (fill M map p page (written last))) (gives (Faulted (1 + q .adds)) walkedOver))
+          → Way (cond c (gives Again (fill M map p page (written last))) (gives (Faulted (1 + q .adds)) (faulted M p page walkedOver)))
       by last w e true c = again last w e c refl
       by last w e false c = lacks last w e c refl
 
@@ -146,11 +146,15 @@ module _ (M : Machine) (map : List ℕ) (p a b : ℕ) (s : State) where
       pub filling-reshapes : Reshaped M ok map fits p (written last) (fill M map p page (written last))
       filling-reshapes = fill-reshapes M ok spare map fits p hp (written last) written-right page (page-small (M .tables) a) last (w .frame) (w .rights) (written-leads (ok .sound) last w e)
 
+    -- a fault
+    fault-right : RightState M map (faulted M p page walkedOver)
+    fault-right = words-right M ok map fits (walked .words) r
+
     way-right : {out : Result} → Way out → RightState M map (out .state)
     way-right (slot k h v q) = rw q r
     way-right (shadow h v q) = rw q r
-    way-right (fault base e q) = rw q (words-right M ok map fits (walked .words) r)
-    way-right (lacks last w e v q) = rw q (words-right M ok map fits (walked .words) r)
+    way-right (fault base e q) = rw q fault-right
+    way-right (lacks last w e v q) = rw q fault-right
     way-right (again last w e v q) = rw q (reshaped-right M ok map fits (written-right last w e) (filling-reshapes last w e))
 
     pub access-right : RightState M map (afterAccess M map p a b s .state)

@@ -2,7 +2,7 @@
 use mathlib.Core.Path.{_≡_, refl, subst, _∙_}
 use mathlib.Core.Bool.{Bool, true, false, cond}
 use mathlib.Core.List.{List}
-use mathlib.Core.Logic.{_⊎_, inl}
+use mathlib.Core.Logic.{_⊎_, inl, inr}
 use Prim.Native.Nat.{ℕ, suc, _-_, _*_, _^_, _≤_, _<_}
 use native.Mathlib.Omega.{arith}
 use lib.Dec.{ltb}
@@ -85,6 +85,6 @@ module _ (M : Machine) (ok : Able M) (spare : M .tables .levels ≤ M .share) (m
     trees = fills .built .trees;
     others = fills .built .stays .others;
     beside = fills .beside;
-    own = fills .own;
+    own = λ k hk. by-cases (fills .own k hk) (λ x. inl x) (λ x. inr (x .0, λ lo. absurd (omega (arith, x .1))));
     triples = fills .triples;
   }

@@ -3,14 +3,14 @@ use mathlib.Core.Path.{_≡_, sym, _∙_}
 use mathlib.Core.Bool.{true}
 use mathlib.Core.List.{List}
 use mathlib.Core.Logic.{_⊎_}
-use Prim.Native.Nat.{ℕ, _-_, _*_, _^_, _≤_, _<_}
+use Prim.Native.Nat.{ℕ, _-_, _*_, _^_, _<_}
 use native.Mathlib.Decide.{ℕ-discrete}
 use native.Mathlib.Omega.{arith}
 use lib.ListN.{length, getD}
-use Rattle.tables.specs.State.{Machine, State, stateOf, slotCount, markOf, pageIn, tableCount, ownerOf}
+use Rattle.tables.specs.State.{Machine, State, stateOf, slotCount, markOf, pageIn, tableCount, pathTo}
 use Rattle.tables.proofs.Counts.{by-cases}
 use Rattle.lawful.specs.Rules.{slotRight}
-use Rattle.trees.proofs.Trees.{Able, Outside, Exact, Trees, Same}
+use Rattle.trees.proofs.Trees.{Able, Outside, Exact, own, Another, Trees, Same}
 use Rattle.trees.proofs.Rules.{Lawful}
 use Rattle.trees.proofs.Paths.{same-path}
 use Rattle.trees.proofs.Slots.{SameSlot, Empty, Room}
@@ -33,19 +33,27 @@ module _ (M : Machine) (ok : Able M) (map : List ℕ) (fits : Mapped M map) wher
 
   -- a processor's slot stays right where its tables and the slot stay
   pub other-slot : (s s′ : State) → Lawful M map s → Exact M (s′ .shadow) → (p : ℕ) → p < M .processors → (k : ℕ) → k < slotCount
-      → ((v : ℕ) → v < tableCount M → ownerOf M v ≡ p → Same M (s .shadow) (s′ .shadow) v) → SameSlot (s .slots) (s′ .slots) p k
+      → ((v : ℕ) → v < tableCount M → own M (s .shadow) v ≡ p → Same M (s .shadow) (s′ .shadow) v) → SameSlot (s .slots) (s′ .slots) p k
       → slotRight M (s′ .shadow .pool) (s′ .slots) p k ≡ true
   other-slot s s′ law exact p hp k hk tables slot =
       stays-right M (s .shadow .pool) (s′ .shadow .pool) (s .slots) p k slot
       (λ h. same-path M ok map (fits .outside) (s .shadow) (s′ .shadow) (law .trees) exact (pageIn (s .slots) p k) p hp tables (M .tables .levels - (markOf (s .slots) p k - 1)) (omega arith))
       (law .slots p hp k hk)
 
-  -- what an event of p leaves that changes its tables: the others' tables and slots, and of its own slots complete ones at most
+  -- where slot k of p is partial, its page's path to it is as it was
+  abbrev pub PathStays : State → State → ℕ → ℕ → Type 0
+  PathStays s s′ p k =
+      let page = pageIn (s .slots) p k in
+      let level = markOf (s .slots) p k - 1 in
+      1 < markOf (s .slots) p k → pathTo M (s′ .shadow .pool) p page level ≡ pathTo M (s .shadow .pool) p page level
+
+  -- what an event of p leaves that changes its tables: the others' tables and slots, and of its own slots those that are
+  -- complete or whose path stays
   pub record Reshaped (p : ℕ) (s s′ : State) : Type 0 where
     pub trees : Trees M map (s′ .shadow)
-    pub others : (v : ℕ) → v < tableCount M → (ownerOf M v ≡ p → ⊥) → Same M (s .shadow) (s′ .shadow) v
+    pub others : (v : ℕ) → v < tableCount M → Another M (s .shadow) p v → Same M (s .shadow) (s′ .shadow) v
     pub beside : (q : ℕ) → (q ≡ p → ⊥) → (k : ℕ) → k < slotCount → SameSlot (s .slots) (s′ .slots) q k
-    pub own : (k : ℕ) → k < slotCount → Empty (s′ .slots) p k ⊎ (SameSlot (s .slots) (s′ .slots) p k × (markOf (s .slots) p k ≤ 1))
+    pub own : (k : ℕ) → k < slotCount → Empty (s′ .slots) p k ⊎ (SameSlot (s .slots) (s′ .slots) p k × PathStays s s′ p k)
     pub triples : length (s′ .slots) ≡ length (s .slots)
 
   pub reshaped-right : {p : ℕ} {s s′ : State} → RightState M map s → Reshaped p s s′ → RightState M map s′
@@ -56,11 +64,11 @@ module _ (M : Machine) (ok : Able M) (map : List ℕ) (fits : Mapped M map) wher
     where
       slot : (q : ℕ) → q < M .processors → (k : ℕ) → k < slotCount → Dec (q ≡ p) → slotRight M (s′ .shadow .pool) (s′ .slots) q k ≡ true
       slot q hq k hk (no ne) =
-          other-slot s s′ (r .law) (h .trees .exact) q hq k hk (λ v hv o. h .others v hv (λ x. ne (sym o ∙ x))) (h .beside q ne k hk)
+          other-slot s s′ (r .law) (h .trees .exact) q hq k hk (λ v hv o. h .others v hv (record { owned = rw o hq; other = λ x. ne (sym o ∙ x) })) (h .beside q ne k hk)
       slot q hq k hk (yes e) = rw e
           (by-cases (h .own k hk)
           (λ x. empty-right M (s′ .shadow .pool) (s′ .slots) p k x)
-          (λ x. stays-right M (s .shadow .pool) (s′ .shadow .pool) (s .slots) p k (x .0) (λ l. absurd (omega (arith, x .1))) (rw e at (r .law .slots q hq k hk))))
+          (λ x. stays-right M (s .shadow .pool) (s′ .shadow .pool) (s .slots) p k (x .0) (x .1) (rw e at (r .law .slots q hq k hk))))
 
   -- what an event of p leaves that changes slot k of p only
   pub one-slot : {p k : ℕ} {s : State} {slots : List ℕ} → RightState M map s → length slots ≡ length (s .slots)

@@ -1,5 +1,5 @@
 -- INVLPG and CR3 write keep the state rules: they take entries away, and with them the page's path.
-use mathlib.Core.Path.{_≡_, refl, ap, _∙_}
+use mathlib.Core.Path.{_≡_, refl, sym, ap, _∙_}
 use mathlib.Core.Bool.{Bool, true, false, cond}
 use mathlib.Core.List.{List}
 use mathlib.Core.Logic.{_⊎_, inl, inr}
@@ -7,23 +7,25 @@ use Prim.Native.Nat.{ℕ, _-_, _≤_, _<_}
 use native.Mathlib.Decide.{ℕ-discrete, decLt}
 use native.Mathlib.Omega.{arith}
 use lib.Dec.{ltb}
+use lib.ListN.{length}
 use lib.Pow.{pow-pos}
 use borrow.Author.Tests.{ltb-true, ltb-false}
 use Rattle.paging.specs.Frame.{guest}
 use Rattle.paging.specs.Layout.{index, pageOf, isPresent}
 use Rattle.paging.proofs.Indices.{index-small}
-use Rattle.tables.specs.State.{Machine, Shadow, onPool, onRecords, State, slotCount, markOf, withRecord, tableCount, ownerOf, rootOf, entryCount, withEntry, nextEntry, pathTo}
+use Rattle.tables.specs.State.{Machine, Shadow, onPool, onRecords, State, stateOf, slotCount, markOf, pageIn, withRecord, tableCount, rootOf, entryCount, withEntry, nextEntry, pathTo}
 use Rattle.tables.specs.Steps.{flush, emptyShare}
 use Rattle.tables.proofs.Counts.{by-cases}
 use Rattle.shadow.specs.After.{leafCleared, afterInvlpg, afterCr3}
-use Rattle.trees.proofs.Trees.{Able, Outside, ent, lev, shd, Trees, Less, Same}
+use Rattle.trees.proofs.Trees.{Able, Outside, ent, lev, shd, own, Another, Trees, Less, Same}
 use Rattle.trees.proofs.Leaves.{leaf-entry, leaf-beside, leaf-trees}
 use Rattle.trees.proofs.Roots.{root-owner}
-use Rattle.trees.proofs.Shares.{share-trees, share-less, share-others, share-own, root-trees, root-frame, root-levels, root-frames}
-use Rattle.trees.proofs.Paths.{lost-entry, stands, zero-absent}
+use Rattle.trees.proofs.Hangs.{by-table}
+use Rattle.trees.proofs.Shares.{share-trees, share-less, share-others, share-own, root-trees, root-frame, root-levels, root-frames, root-owners}
+use Rattle.trees.proofs.Paths.{lost-entry, stands, zero-absent, upper-path}
 use Rattle.trees.proofs.Unique.{leaf-here}
 use Rattle.trees.proofs.Slots.{SameSlot, Empty, Room, emptySlots-length, emptySlots-other, emptySlots-here, flush-length, flush-others, flush-here}
-use Rattle.keeps.proofs.RightStates.{Mapped, RightState, room, Reshaped}
+use Rattle.keeps.proofs.RightStates.{Mapped, RightState, room, PathStays, Reshaped}
 
 -- what a flush leaves of a slot
 pub flush-leaves : (p v : ℕ) (slots : List ℕ) (k : ℕ) → k < slotCount → Room slots p
@@ -50,7 +52,7 @@ module _ (M : Machine) (ok : Able M) (map : List ℕ) (fits : Mapped M map) (p :
   pub record Takes (v : ℕ) (s₁ : Shadow) : Type 0 where
     pub trees : Trees M map s₁
     pub less : Less M (s .shadow) s₁
-    pub others : (t : ℕ) → t < tableCount M → (ownerOf M t ≡ p → ⊥) → Same M (s .shadow) s₁ t
+    pub others : (t : ℕ) → t < tableCount M → Another M (s .shadow) p t → Same M (s .shadow) s₁ t
     pub gone : isPresent (nextEntry M (s₁ .pool) v (pathTo M (s₁ .pool) p v 1)) ≡ true → ⊥
 
   module _ (a : ℕ) where
@@ -65,7 +67,7 @@ module _ (M : Machine) (ok : Able M) (map : List ℕ) (fits : Mapped M map) (p :
     none off = record {
       trees = was;
       less = record { entries = λ u h k l. inl refl };
-      others = λ u h ne. record { entries = λ k l. refl; level = refl; frame = refl };
+      others = λ u h o. record { entries = λ k l. refl; level = refl; frame = refl; owner = refl };
       gone = zero-absent _ (lost-entry M ready (s .shadow) (was .exact) v (pathTo M (s .shadow .pool) p v 1) off);
     }
 
@@ -80,7 +82,7 @@ module _ (M : Machine) (ok : Able M) (map : List ℕ) (fits : Mapped M map) (p :
       level : lev M (s .shadow) t ≡ 1
       level = stands M ready map out (s .shadow) was p hp v (M .tables .levels - 1) (omega (arith, ok .upper)) on .0 ∙ omega (arith, ok .upper)
 
-      owner : ownerOf M t ≡ p
+      owner : own M (s .shadow) t ≡ p
       owner = stands M ready map out (s .shadow) was p hp v (M .tables .levels - 1) (omega (arith, ok .upper)) on .1
 
       cleared : ent M s₁ t i ≡ 0
@@ -98,31 +100,56 @@ module _ (M : Machine) (ok : Able M) (map : List ℕ) (fits : Mapped M map) (p :
       some = record {
         trees = leaf-trees M ready map out (s .shadow) was t i 0 on level (index-small (M .tables) v 1) (pow-pos (M .tables .entryBits)) (inl refl);
         less = record { entries = λ u hu k hk. lessened u k hk (ℕ-discrete u t) (ℕ-discrete k i) };
-        others = λ u hu ne. record { entries = λ k hk. beside u k hk (λ e x. ne (ap (ownerOf M) e ∙ owner)); level = refl; frame = refl };
+        others = λ u hu o. record { entries = λ k hk. beside u k hk (λ e x. o .other (ap (own M (s .shadow)) e ∙ owner)); level = refl; frame = refl; owner = refl };
         gone = zero-absent _ (leaf-here M ready map out (s .shadow) was p hp v t 0 on level refl (pow-pos (M .tables .entryBits)));
       }
 
-    clears : Takes v (onPool (leafCleared M p v) (s .shadow))
+    pub leaf-takes : Takes v (onPool (leafCleared M p v) (s .shadow))
     unfolding leafCleared
-    clears = go (ltb t (tableCount M)) refl
+    leaf-takes = go (ltb t (tableCount M)) refl
       where
         go : (b : Bool) → ltb t (tableCount M) ≡ b → Takes v (onPool (λ pool. cond b (withEntry M t (index (M .tables) v 1) 0 pool) pool) (s .shadow))
         go true q = some (ltb-true t (tableCount M) q)
         go false q = none (ltb-false t (tableCount M) q)
 
+    -- entries above level 1 stay
+    leaf-upper : (u : ℕ) → u < tableCount M → 1 < lev M (s .shadow) u → (k : ℕ) → k < entryCount M
+        → ent M (onPool (leafCleared M p v) (s .shadow)) u k ≡ ent M (s .shadow) u k
+    unfolding leafCleared
+    leaf-upper u hu up k hk = go (ltb t (tableCount M)) refl
+      where
+        go : (b : Bool) → ltb t (tableCount M) ≡ b
+            → ent M (onPool (λ pool. cond b (withEntry M t (index (M .tables) v 1) 0 pool) pool) (s .shadow)) u k ≡ ent M (s .shadow) u k
+        go false q = refl
+        go true q = let on = ltb-true t (tableCount M) q in beside on u k hk (λ x y. omega (arith, level on, ap (lev M (s .shadow)) x))
+
+    -- WHERE THE PAGE'S LEVEL 1 ENTRY GOES, EVERY SLOT MAY STAY: a path to where a partial one stands reads only tables above
+    pub leaf-reshapes : (words slots : List ℕ) → length slots ≡ length (s .slots)
+        → ((q : ℕ) → (q ≡ p → ⊥) → (k : ℕ) → k < slotCount → SameSlot (s .slots) slots q k)
+        → ((k : ℕ) → k < slotCount → Empty slots p k ⊎ SameSlot (s .slots) slots p k)
+        → Reshaped M ok map fits p s (stateOf words (onPool (leafCleared M p v) (s .shadow)) slots)
+    leaf-reshapes words slots size others own = record {
+      trees = leaf-takes .trees;
+      others = leaf-takes .others;
+      beside = others;
+      own = λ k hk. by-cases (own k hk) (λ x. inl x) (λ x. inr (x, stays k));
+      triples = size;
+    }
+      where
+        stays : (k : ℕ) → PathStays M ok map fits s (stateOf words (onPool (leafCleared M p v) (s .shadow)) slots) p k
+        stays k lo =
+            upper-path M ready map out (s .shadow) (onPool (leafCleared M p v) (s .shadow)) was (leaf-takes .trees .exact) (pageIn (s .slots) p k) p hp 1 leaf-upper
+            (M .tables .levels - (markOf (s .slots) p k - 1)) (omega arith)
+
     pub invlpg-takes : Takes v (afterInvlpg M p a s .state .shadow)
     unfolding afterInvlpg
-    invlpg-takes = clears
+    invlpg-takes = leaf-takes
 
     pub invlpg-reshapes : Reshaped M ok map fits p s (afterInvlpg M p a s .state)
     unfolding afterInvlpg
-    invlpg-reshapes = record {
-      trees = clears .trees;
-      others = clears .others;
-      beside = λ q ne k hk. flush-others p v (s .slots) q k hk ne;
-      own = λ k hk. flush-leaves p v (s .slots) k hk here;
-      triples = flush-length p v (s .slots);
-    }
+    invlpg-reshapes =
+        leaf-reshapes (s .words) (flush p v (s .slots)) (flush-length p v (s .slots)) (λ q ne k hk. flush-others p v (s .slots) q k hk ne)
+        (λ k hk. by-cases (flush-here p v (s .slots) k hk here) (λ x. inr (x .0)) (λ x. inl x))
 
   -- ---- "CR3 write: all tables of p freed, root set up anew, all slots of p emptied."
 
@@ -139,12 +166,13 @@ module _ (M : Machine) (ok : Able M) (map : List ℕ) (fits : Mapped M map) (p :
     cr3-takes v = record {
       trees = anew;
       less = record { entries = share-less M ready map out (s .shadow) was p hp .entries };
-      others = λ t ht ne.
-          let same = share-others M ready map out (s .shadow) was p hp t ht ne in
+      others = λ t ht o.
+          let same = share-others M ready map out (s .shadow) was p hp t ht (o .other) in
           record {
             entries = same .entries;
             level = root-levels M ready map bare bare-trees p hp f hf t ∙ same .level;
-            frame = root-frames M ready map bare bare-trees p hp f hf t (λ q. ne (ap (ownerOf M) q ∙ root-owner M ready p)) ∙ same .frame;
+            frame = root-frames M ready map bare bare-trees p hp f hf t (λ q. o .other (ap (own M (s .shadow)) q ∙ root-owner M ready (s .shadow) p)) ∙ same .frame;
+            owner = root-owners M ready map bare bare-trees p hp f hf t ∙ same .owner;
           };
       gone = go (decLt (pathTo M (bare .pool) p v 1 .table) (tableCount M));
     }
@@ -154,8 +182,11 @@ module _ (M : Machine) (ok : Able M) (map : List ℕ) (fits : Mapped M map) (p :
 
         go : Dec (pathTo M (bare .pool) p v 1 .table < tableCount M) → isPresent (nextEntry M (bare .pool) v (pathTo M (bare .pool) p v 1)) ≡ true → ⊥
         go (yes on) =
-            zero-absent _ (share-own M ready map out (s .shadow) was p hp (pathTo M (bare .pool) p v 1 .table) on
-            (stands M ready map out bare bare-trees p hp v (M .tables .levels - 1) (omega (arith, ok .upper)) on .1) _ (index-small (M .tables) v (pathTo M (bare .pool) p v 1 .level)))
+            let u = pathTo M (bare .pool) p v 1 .table in
+            let mine = stands M ready map out bare bare-trees p hp v (M .tables .levels - 1) (omega (arith, ok .upper)) on .1 in
+            by-table (own M (s .shadow) u) p
+            (λ o. zero-absent _ (share-own M ready map out (s .shadow) was p hp u on o _ (index-small (M .tables) v (pathTo M (bare .pool) p v 1 .level))))
+            (λ ne. absurd (ne (sym (share-others M ready map out (s .shadow) was p hp u on ne .owner) ∙ mine)))
         go (no off) = zero-absent _ (lost-entry M ready bare (bare-trees .exact) v (pathTo M (bare .pool) p v 1) (omega arith))
 
     pub cr3-reshapes : Reshaped M ok map fits p s (afterCr3 M p f s .state)

@@ -8,7 +8,7 @@ use Rattle.paging.specs.declared.Origin.the-variants.{Of, Nowhere}
 use Rattle.paging.specs.Frame.{host, originOf}
 use Rattle.paging.specs.Layout.{Layout, bit, frameOf, rightsOf, compose}
 use Rattle.paging.specs.Numbers.{all, sum, count}
-use Rattle.tables.specs.State.{Machine, Shadow, State, levelOf, shadows, isFree, slotCount, markOf, pageIn, placeIn, rightsIn, tableCount, ownerOf, rootOf, entryCount, entryOf, named, pathTo}
+use Rattle.tables.specs.State.{Machine, Shadow, State, levelOf, shadows, isFree, slotCount, markOf, pageIn, placeIn, rightsIn, tableCount, homeOf, ownerOf, rootOf, entryCount, entryOf, named, pathTo}
 
 abbrev pub isOf : Origin → Bool
 isOf (Of g) = true
@@ -41,11 +41,11 @@ module _ (M : Machine) where
   namesLower records t e =
       leb (levelOf records t) 1
       || eqb e 0
-      || eqb (ownerOf M (named M e)) (ownerOf M t) && eqb (levelOf records (named M e) + 1) (levelOf records t)
+      || eqb (ownerOf M records (named M e)) (ownerOf M records t) && eqb (levelOf records (named M e) + 1) (levelOf records t)
 
   -- "The first is its root."
   unfoldable pub isRoot : ℕ → Bool
-  isRoot t = eqb t (rootOf M (ownerOf M t))
+  isRoot t = eqb t (rootOf M (homeOf M t))
 
   -- how many entries name u
   unfoldable pub namesOf : List ℕ → ℕ → ℕ

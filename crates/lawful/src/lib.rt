@@ -103,7 +103,7 @@ fn names_lower(records: &[u64], z: Sizes, t: u64, e: u64) -> bool
         return true;
     }
     let u = tables::named_by(z, e);
-    if tables::owner_of(z, u) != tables::owner_of(z, t) {
+    if tables::owner_of(records, z, u) != tables::owner_of(records, z, t) {
         return false;
     }
     tables::level_of(records, u) == level - 1

@@ -1,16 +1,18 @@
--- Laws of the bounded tests: one turn of a loop more, a failing number, and what a passed test says of each.
-use mathlib.Core.Path.{_≡_, refl, sym, ap₂}
-use mathlib.Core.Logic.{_⊎_, inl, inr}
+-- Laws of the bounded tests: one turn of a loop more, a failing number, what a passed test says of each, and the first
+-- number that passes.
+use mathlib.Core.Path.{_≡_, refl, sym, ap, ap₂, _∙_}
+use mathlib.Core.Logic.{_⊎_, inl, inr, ⊎-elim}
 use mathlib.Core.List.{List, [], _∷_}
-use mathlib.Core.Bool.{Bool, true, false, _&&_, _||_, and-false}
+use mathlib.Core.Bool.{Bool, true, false, cond, _&&_, _||_, and-false}
 use Prim.Native.Nat.{ℕ, zero, suc, _+_, _≤_, _<_}
+use native.Mathlib.Nat.{eq-or-lt-of-le}
 use native.Mathlib.Numerals.{add-one}
 use native.Mathlib.Decide.{ℕ-discrete}
 use native.Mathlib.Omega.{arith}
 use lib.Dec.{T, leb}
 use lib.ListN.{length, getD, set}
 use borrow.Author.Tests.{leb-true}
-use Rattle.paging.specs.Numbers.{all, some, each, tab, isBetween}
+use Rattle.paging.specs.Numbers.{all, some, firstFrom, first, each, tab, isBetween}
 use Rattle.paging.proofs.Tests.{and-l, and-r, or-l, or-r, or-cases, T-true, true-T, both}
 
 module _ (f : ℕ → Bool) where
@@ -72,6 +74,35 @@ module _ (f : ℕ → Bool) where
       go : T (some n f) ⊎ T (f n) → (some n f ≡ true → (i : ℕ) × (i < n) × (f i ≡ true)) → (i : ℕ) × (i < suc n) × (f i ≡ true)
       go (inl t) ih = let (i, h, k) = ih (T-true _ t) in (i, omega arith, k)
       go (inr t) ih = (n, omega arith, T-true _ t)
+
+  -- ---- first
+
+  first-le : (n i k : ℕ) → i ≤ k → k < i + n → f k ≡ true → firstFrom i n f ≤ k
+  unfolding firstFrom
+  first-le zero i k lo hi e = absurd (omega arith)
+  first-le (suc n) i k lo hi e = go (f i) refl (first-le n (i + 1) k)
+    where
+      go : (b : Bool) → f i ≡ b → (i + 1 ≤ k → k < i + 1 + n → f k ≡ true → firstFrom (i + 1) n f ≤ k) → cond b i (firstFrom (i + 1) n f) ≤ k
+      go true q more = lo
+      go false q more =
+          ⊎-elim
+          (λ (same : i ≡ k). let z : true ≡ false = sym e ∙ ap f (sym same) ∙ q in let z : _≡_ {A = ℕ} 0 1 = cc in absurd (omega arith))
+          (λ (l : i < k). more (omega arith) (omega arith) e)
+          (eq-or-lt-of-le lo)
+
+  pub first-passes : (n i : ℕ) → firstFrom i n f < i + n → f (firstFrom i n f) ≡ true
+  unfolding firstFrom
+  first-passes zero i h = absurd (omega arith)
+  first-passes (suc n) i h = go (f i) refl h (first-passes n (i + 1))
+    where
+      go : (b : Bool) → f i ≡ b → cond b i (firstFrom (i + 1) n f) < i + suc n → (firstFrom (i + 1) n f < i + 1 + n → f (firstFrom (i + 1) n f) ≡ true)
+          → f (cond b i (firstFrom (i + 1) n f)) ≡ true
+      go true q h more = q
+      go false q h more = more (omega arith)
+
+-- where a number passes, the first that does is found
+pub first-found : (n : ℕ) (f : ℕ → Bool) (k : ℕ) → k < n → f k ≡ true → (first n f < n) × (f (first n f) ≡ true)
+first-found n f k h e = let l = first-le f n 0 k (omega arith) (omega arith) e in (omega arith, first-passes f n 0 (omega arith))
 
 module _ {A : Type 0} where
   pub tab-length : (n : ℕ) (f : ℕ → A) → length (tab n f) ≡ n

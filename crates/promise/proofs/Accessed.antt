@@ -20,16 +20,16 @@ use Rattle.tables.specs.declared.Walked.{Walked}
 use Rattle.tables.specs.declared.Walked.the-variants.{Whole}
 use Rattle.tables.specs.State.{Machine, State, slotCount, pageIn, rootOf}
 use Rattle.tables.proofs.Counts.{by-cases}
-use Rattle.shadow.specs.After.{Result, fill, afterAccess, callRefusal}
+use Rattle.shadow.specs.After.{Result, fill, faulted, afterAccess, callRefusal}
 use Rattle.shadow.proofs.Accepted.{accepted-ranged}
 use Rattle.trees.proofs.Trees.{Able, shd}
-use Rattle.trees.proofs.Roots.{root-table, root-owner}
+use Rattle.trees.proofs.Roots.{root-table, root-another}
 use Rattle.trees.proofs.Slots.{SameSlot}
 use Rattle.keeps.proofs.Alikes.{same-refl}
 use Rattle.keeps.proofs.RightStates.{Mapped}
 use Rattle.keeps.proofs.Moves.{page-small}
 use Rattle.keeps.proofs.Filled.{Fills}
-use Rattle.keeps.proofs.Accesses.{walked, written, walk-same, written-same, written-leads, written-right, filling, Way, slot, shadow, fault, lacks, again, ways}
+use Rattle.keeps.proofs.Accesses.{walked, walkedOver, written, walk-same, written-same, written-leads, written-right, filling, Way, slot, shadow, fault, lacks, again, ways}
 use Rattle.keeps.proofs.Again.{end-covers, end-frame, end-inside}
 use Rattle.promise.specs.Demand.{Fresh}
 use Rattle.promise.proofs.GuestWalks.{Ends, whole, absent, beyond, walks}
@@ -162,7 +162,7 @@ module _ (F : Fresh) (es : List Event) (k : ℕ) (s : State) (h : Holds F es k s
           root : (r : ℕ) → r < M .processors → Dec (r ≡ p) → shd M (f .shadow) (rootOf M r) ≡ shd M (s .shadow) (rootOf M r)
           root r hr (yes a) = rw a (done .built .stays .root)
           root r hr (no a) =
-              done .built .stays .others (rootOf M r) (root-table M room r hr) (λ x. a (sym (root-owner M room r) ∙ x)) .frame
+              done .built .stays .others (rootOf M r) (root-table M room r hr) (root-another M room (s .shadow) r p hr a) .frame
 
           path : (r : ℕ) → r < M .processors → (u : ℕ) → u < 2 ^ (M .tables .indexBits * M .tables .levels) → Dec (r ≡ p) → Dec (u ≡ page) → Pathed F es (suc k) f r u
           path r hr u hu (yes a) (yes b) = rw (a, b) own-path
@@ -174,11 +174,15 @@ module _ (F : Fresh) (es : List Event) (k : ℕ) (s : State) (h : Holds F es k s
           slotted r hr j hj (yes a) = rw a
               (by-cases (done .own j hj) (λ x. no-slot F es (λ m. omega (arith, x .mark))) (λ x. same p own j hj (x .0)))
 
+    -- a fault
+    fault-holds : After F es k s h ok (faulted M p page (walkedOver M map p (e .a) (e .b) s))
+    fault-holds = still F es k s h ok (λ x. omega arith) unended three (walked M map p (e .a) (e .b) s .words) (walk-same M map p (e .a) (e .b) s (h .laid .sound))
+
     way : {out : Result} → Way M map p (e .a) (e .b) s out → After F es k s h ok (out .state)
     way (slot j hj v o) = rw o (still F es k s h ok (λ x. omega arith) unended three (s .words) (same-refl (M .tables) (s .words)))
     way (shadow x v o) = rw o (still F es k s h ok (λ x. omega arith) unended three (s .words) (same-refl (M .tables) (s .words)))
-    way (fault base x o) = rw o (still F es k s h ok (λ x. omega arith) unended three (walked M map p (e .a) (e .b) s .words) (walk-same M map p (e .a) (e .b) s (h .laid .sound)))
-    way (lacks last w x v o) = rw o (still F es k s h ok (λ x. omega arith) unended three (walked M map p (e .a) (e .b) s .words) (walk-same M map p (e .a) (e .b) s (h .laid .sound)))
+    way (fault base x o) = rw o fault-holds
+    way (lacks last w x v o) = rw o fault-holds
     way (again last w x v o) = rw o (filled last w x)
 
     pub accessed : After F es k s h ok (afterAccess M map p (e .a) (e .b) s .state)

@@ -11,13 +11,13 @@ use borrow.Author.Tests.{eq-eqb, ne-eqb}
 use Rattle.paging.specs.Frame.{guest}
 use Rattle.paging.specs.Layout.{frameWords, get}
 use Rattle.paging.specs.Numbers.{each}
-use Rattle.tables.specs.State.{Machine, Shadow, shadowOf, onRecords, State, withRecord, markOf, pageIn, placeIn, rightsIn, slotAt, tableCount, ownerOf, rootOf}
+use Rattle.tables.specs.State.{Machine, Shadow, shadowOf, onRecords, State, recordSize, withRecord, markOf, pageIn, placeIn, rightsIn, slotAt, tableCount, homeOf, rootOf}
 use Rattle.lawful.specs.Rules.{isRoot}
 use Rattle.shadow.specs.After.{rooted, started}
 use Rattle.trees.proofs.Trees.{Able, Exact, ent, lev, shd, Names, Trees}
 use Rattle.trees.proofs.Entries.{level-here, frame-here, level-other, frame-other, record-exact, zero-names-none}
 use Rattle.trees.proofs.Hangs.{by-table}
-use Rattle.trees.proofs.Roots.{root-table, root-owner, root-is, root-not}
+use Rattle.trees.proofs.Roots.{root-table, root-home, root-is, home-not}
 
 -- zeros are zero everywhere, past the end too
 zeros-at : (n k : ℕ) → getD {A = ℕ} (replicate n 0) k 0 ≡ 0
@@ -64,19 +64,19 @@ module _ (M : Machine) (ok : Able M) (cr3s : List ℕ) where
       )
 
       apart : {p : ℕ} → rootOf M p ≡ rootOf M n → p ≡ n
-      apart {p} q = sym (root-owner M ok p) ∙ ap (ownerOf M) q ∙ root-owner M ok n
+      apart {p} q = sym (root-home M ok p) ∙ ap (homeOf M) q ∙ root-home M ok n
 
   rooted-turns : (n : ℕ) → n ≤ M .processors
-      → Rooted n (shadowOf zeros (each n (λ p. withRecord (rootOf M p) (M .tables .levels) (guest (getD cr3s p 0))) (replicate (2 * tableCount M) 0)))
+      → Rooted n (shadowOf zeros (each n (λ p. withRecord (rootOf M p) (M .tables .levels) (guest (getD cr3s p 0))) (replicate (recordSize * tableCount M) 0)))
   unfolding each
   rooted-turns zero h = record {
     exact = record { words = length-replicate _ 0; pairs = length-replicate _ 0 };
     root = λ p lt. absurd (omega arith);
-    others = λ v no-one. (zeros-at (2 * tableCount M) (2 * v), zeros-at (2 * tableCount M) (2 * v + 1));
+    others = λ v no-one. (zeros-at (recordSize * tableCount M) (recordSize * v), zeros-at (recordSize * tableCount M) (recordSize * v + 1));
   }
   rooted-turns (suc n) h = rooted-more (omega arith) (rooted-turns n (omega arith))
 
-  all-rooted : Rooted (M .processors) (shadowOf zeros (rooted M cr3s (replicate (2 * tableCount M) 0)))
+  all-rooted : Rooted (M .processors) (shadowOf zeros (rooted M cr3s (replicate (recordSize * tableCount M) 0)))
   unfolding rooted
   all-rooted = rooted-turns (M .processors) (omega arith)
 
@@ -108,13 +108,13 @@ module _ (M : Machine) (ok : Able M) (cr3s words : List ℕ) where
 
   -- ---- trees
 
-  owner-small : (v : ℕ) → v < tableCount M → ownerOf M v < M .processors
-  owner-small v h = div-lt-iff-lt-mul (ok .some) .1 h
+  home-small : (v : ℕ) → v < tableCount M → homeOf M v < M .processors
+  home-small v h = div-lt-iff-lt-mul (ok .some) .1 h
 
   record Root (v : ℕ) : Type 0 where
     is : isRoot M v ≡ true
     level : lev M (s .shadow) v ≡ M .tables .levels
-    frame : shd M (s .shadow) v ≡ getD cr3s (ownerOf M v) 0
+    frame : shd M (s .shadow) v ≡ getD cr3s (homeOf M v) 0
 
   record Free (v : ℕ) : Type 0 where
     is : isRoot M v ≡ false
@@ -124,16 +124,16 @@ module _ (M : Machine) (ok : Able M) (cr3s words : List ℕ) where
   -- a table is a root, or free
   by-root : {A : Type 0} (v : ℕ) → v < tableCount M → (Root v → A) → (Free v → A) → A
   by-root v h f g =
-      by-table v (rootOf M (ownerOf M v))
+      by-table v (rootOf M (homeOf M v))
       (λ q. f record {
-        is = ap (isRoot M) q ∙ root-is M ok (ownerOf M v);
-        level = ap (lev M (s .shadow)) q ∙ begun-level (ownerOf M v) (owner-small v h);
-        frame = ap (shd M (s .shadow)) q ∙ begun-frame (ownerOf M v) (owner-small v h);
+        is = ap (isRoot M) q ∙ root-is M ok (homeOf M v);
+        level = ap (lev M (s .shadow)) q ∙ begun-level (homeOf M v) (home-small v h);
+        frame = ap (shd M (s .shadow)) q ∙ begun-frame (homeOf M v) (home-small v h);
       })
       (λ ne.
-      let no-one : (p : ℕ) → p < M .processors → v ≡ rootOf M p → ⊥ = λ p lt q. ne (q ∙ ap (rootOf M) (sym (ap (ownerOf M) q ∙ root-owner M ok p))) in
+      let no-one : (p : ℕ) → p < M .processors → v ≡ rootOf M p → ⊥ = λ p lt q. ne (q ∙ ap (rootOf M) (sym (ap (homeOf M) q ∙ root-home M ok p))) in
       let o = all-rooted M ok cr3s .others v no-one in
-      g record { is = root-not M ok (ownerOf M v) v refl ne; level = o .0; frame = o .1 })
+      g record { is = home-not M ok v ne; level = o .0; frame = o .1 })
 
   none : {v k x : ℕ} → Names M (s .shadow) v k x → ⊥
   none {v} {k} m = zero-names-none M (ent M (s .shadow) v k) (begun-entries v k) (rw (m .names) (m .is))
@@ -147,7 +147,7 @@ module _ (M : Machine) (ok : Able M) (cr3s words : List ℕ) where
         by-root v h
         (λ r. r .is ∙ sym (eq-eqb _ _ (r .level)))
         (λ f. f .is ∙ sym (ne-eqb (lev M (s .shadow) v) (M .tables .levels) (λ q. omega (arith, f .level, ok .upper))));
-    frames = λ v h. let l = below (ownerOf M v) (owner-small v h) in by-root v h (λ r. omega (arith, r .frame)) (λ f. omega (arith, f .frame));
+    frames = λ v h. let l = below (homeOf M v) (home-small v h) in by-root v h (λ r. omega (arith, r .frame)) (λ f. omega (arith, f .frame));
     free = λ v h z. (by-root v h (λ r. absurd (omega (arith, r .level, ok .upper))) (λ f. f .frame), λ k hk. begun-entries v k);
     leaf = λ v h z k hk. inl (begun-entries v k);
     branch = λ v h z k hk. inl (begun-entries v k);

@@ -6,20 +6,20 @@ use native.Mathlib.Omega.{arith}
 use lib.Dec.{T}
 use borrow.Author.Tests.{eq-eqb, ne-eqb}
 use Rattle.paging.specs.declared.Request.{Request}
-use Rattle.paging.specs.Layout.{rightsOf, isPresent}
+use Rattle.paging.specs.Layout.{pageOf, rightsOf, isPresent}
 use Rattle.paging.specs.Request.{enough}
 use Rattle.paging.specs.Walk.{meet}
 use Rattle.rules.specs.declared.Event.{Event}
-use Rattle.tables.specs.State.{Machine, Shadow, State, tableCount, ownerOf, nextEntry, pathTo}
+use Rattle.tables.specs.State.{Machine, Shadow, State, tableCount, nextEntry, pathTo}
 use Rattle.tables.proofs.Counts.{by-cases}
-use Rattle.shadow.specs.After.{Result, callRefusal, after, afterBegin, afterDrop}
+use Rattle.shadow.specs.After.{Result, faulted, callRefusal, after, afterBegin, afterDrop}
 use Rattle.shadow.proofs.Accepted.{accepted-ranged, accepted-own}
-use Rattle.trees.proofs.Trees.{Laid, Able, Same, Trees}
+use Rattle.trees.proofs.Trees.{Laid, Able, own, Another, Same, Trees}
 use Rattle.trees.proofs.Paths.{same-path, same-entry}
 use Rattle.keeps.proofs.RightStates.{Mapped, RightState}
 use Rattle.keeps.proofs.Moves.{extends}
 use Rattle.keeps.proofs.Takes.{invlpg-reshapes, cr3-reshapes}
-use Rattle.keeps.proofs.Accesses.{Way, slot, shadow, fault, lacks, again, ways, filling-reshapes}
+use Rattle.keeps.proofs.Accesses.{walkedOver, Way, slot, shadow, fault, lacks, again, ways, filling-reshapes}
 use Rattle.keeps.proofs.Again.{Serves}
 use Rattle.keeps.proofs.Events.{accepted-mapped, accepted-able, accepted-right, Kind, store, invlpg, cr3, access, begin, extend, drop, kinds}
 use Rattle.promise.specs.Demand.{mayStandBetween}
@@ -52,9 +52,10 @@ module _ (M : Machine) (map : List ℕ) (s : State) (e : Event) (laid : Laid (M 
 
   -- another processor's work on its own tables
   apart : (s′ : State) → Trees M map (s′ .shadow) → (e .proc ≡ p → ⊥)
-      → ((v : ℕ) → v < tableCount M → (ownerOf M v ≡ e .proc → ⊥) → Same M (s .shadow) (s′ .shadow) v) → Serves M s′ p page q
+      → ((v : ℕ) → v < tableCount M → Another M (s .shadow) (e .proc) v → Same M (s .shadow) (s′ .shadow) v) → Serves M s′ p page q
   apart s′ trees ne others =
-      let same : (v : ℕ) → v < tableCount M → ownerOf M v ≡ p → Same M (s .shadow) (s′ .shadow) v = λ v hv o. others v hv (λ x. ne (sym x ∙ o)) in
+      let same : (v : ℕ) → v < tableCount M → own M (s .shadow) v ≡ p → Same M (s .shadow) (s′ .shadow) v =
+      λ v hv o. others v hv (record { owned = rw o hp; other = λ x. ne (sym x ∙ o) }) in
       let path = same-path M sized map (fits .outside) (s .shadow) (s′ .shadow) (right .law .trees) (trees .exact) page p hp same (M .tables .levels - 1) (omega (arith, laid .upper)) in
       let end = same-entry M sized map (fits .outside) (s .shadow) (s′ .shadow) (right .law .trees) (trees .exact) page p hp same (M .tables .levels - 1) (omega (arith, laid .upper)) in
       record {
@@ -73,11 +74,15 @@ module _ (M : Machine) (map : List ℕ) (s : State) (e : Event) (laid : Laid (M 
         ne-eqb (e .kind) 7 (λ y. d (sym x ∙ y)),
       ) at t
 
+  -- another's fault
+  fault-serves : Serves M (faulted M (e .proc) (pageOf (M .tables) (e .a)) (walkedOver M map (e .proc) (e .a) (e .b) s)) p page q
+  fault-serves = serves-by M p page q s _ refl sv
+
   way : (e .proc ≡ p → ⊥) → {out : Result} → Way M map (e .proc) (e .a) (e .b) s out → Serves M (out .state) p page q
   way ne (slot k h x o) = rw o sv
   way ne (shadow h x o) = rw o sv
-  way ne (fault base x o) = rw o (serves-by M p page q s _ refl sv)
-  way ne (lacks last w x y o) = rw o (serves-by M p page q s _ refl sv)
+  way ne (fault base x o) = rw o fault-serves
+  way ne (lacks last w x y o) = rw o fault-serves
   way ne (again last w x y o) =
       let f = filling-reshapes M map (e .proc) (e .a) (e .b) s sized spare fits by right last w x in
       rw o (apart _ (f .trees) ne (f .others))

@@ -17,7 +17,7 @@ use Rattle.shadow.specs.After.{callRefusal, afterStore, afterInvlpg, afterCr3, 
 use Rattle.shadow.proofs.Accepted.{accepted-own}
 use Rattle.trees.proofs.Trees.{Able, shd}
 use Rattle.trees.proofs.Paths.{less-full}
-use Rattle.trees.proofs.Roots.{root-table, root-owner}
+use Rattle.trees.proofs.Roots.{root-table, root-another}
 use Rattle.trees.proofs.Slots.{SameSlot, Room, same-self, with-other, with-mark, emptySlots-other, emptySlots-here, flush-others, flush-here}
 use Rattle.keeps.proofs.Alikes.{Same, same-refl, same-trans, same-store}
 use Rattle.keeps.proofs.RightStates.{Mapped, RightState, room}
@@ -210,7 +210,7 @@ module _ (F : Fresh) (es : List Event) (k : ℕ) (s : State) (h : Holds F es k s
           ap (λ (x : ℕ). shd M (s′ .shadow) (rootOf M x)) a ∙ cr3-root M sized map fits p hp s (h .right) (e .a) hf
           ∙ ap (λ (g : Guest). g .0) (sym (cr3-written F es k q a three))
       root q hq (no a) =
-          t 0 .others (rootOf M q) (root-table M sized q hq) (λ x. a (sym (root-owner M sized q) ∙ x)) .frame
+          t 0 .others (rootOf M q) (root-table M sized q hq) (root-another M sized (s .shadow) q p hq a) .frame
           ∙ h .roots q hq ∙ ap (λ (g : Guest). g .0) (sym (cr3-other F es k q a))
 
       path : (q : ℕ) → q < M .processors → (u : ℕ) → u < 2 ^ (M .tables .indexBits * M .tables .levels) → Dec (q ≡ p) → Pathed F es (suc k) s′ q u

@@ -15,7 +15,7 @@ use Rattle.paging.proofs.Narrow.{tables32}
 use Rattle.rules.specs.declared.Event.{Event}
 use Rattle.rules.specs.Refusal.{refusal}
 use Rattle.rules.specs.History.{eventRefusal}
-use Rattle.tables.specs.State.{Machine, named, descend}
+use Rattle.tables.specs.State.{Machine, named, descend, lowest}
 use Rattle.tables.specs.Steps.{servingSlot, flush, flushed, walkFrom, leafOf, freeCount, taken, settle, build, freeTable}
 use Rattle.shadow.specs.declared.Answer.the-variants.{Done, Address, Fault, Again}
 use Rattle.shadow.specs.After.{rangesFit, lengthsFit, poolFits, inPool, framesFit, moved, dirtied, leafCleared, afterInvlpg, fill, afterMiss, afterAccess, rooted, setupRefusal}
@@ -36,7 +36,7 @@ demand-three-32 = demand-three tables32 laid32
 -- halves at one moment.
 
 abbrev machine32 : Machine
-machine32 = record { tables = tables32; frames = 3; processors = 1; share = 2; base = 2 ^ 19 }
+machine32 = record { tables = tables32; frames = 3; processors = 1; share = 2; base = 2 ^ 19; choose = lowest }
 
 abbrev event : ℕ → ℕ → ℕ → Event
 event kind a b = record { proc = 0; kind = kind; a = a; b = b }

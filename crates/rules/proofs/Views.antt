@@ -1,11 +1,11 @@
 -- The view of a history is coherent, and of a history that fits it is rooted; and which events end nothing in it.
 use mathlib.Core.Path.{_≡_, refl, ap}
-use mathlib.Core.Bool.{Bool, true, false, cond, not, _&&_, _||_}
+use mathlib.Core.Bool.{Bool, true, false, cond, not, _&&_, and-false}
 use mathlib.Core.List.{List}
 use Prim.Native.Nat.{ℕ, zero, suc, _-_, _<_}
 use native.Mathlib.Omega.{arith}
 use native.Mathlib.Decide.{decLt}
-use lib.Dec.{T, T-not, eqb, eqb→eq}
+use lib.Dec.{T, T-not, eqb→eq}
 use lib.ListN.{length, List·getD-eq-default}
 use borrow.Author.Tests.{ne-eqb}
 use Rattle.paging.specs.declared.Walk.{Walk}
@@ -17,7 +17,7 @@ use Rattle.paging.specs.Sound.{Sound}
 use Rattle.paging.proofs.Rights.{meet-small}
 use Rattle.paging.proofs.Tests.{T-true, and-l, and-r, or-r}
 use Rattle.rules.specs.declared.Event.{Event}
-use Rattle.rules.specs.History.{Setup, Fit, isInvlpg, isBy, isCr3Write, eventAt, cr3At}
+use Rattle.rules.specs.History.{Setup, Fit, isBy, isCr3Write, eventAt, cr3At}
 use Rattle.rules.specs.View.{viewOf}
 use Rattle.rules.proofs.Ranges.{cr3-within}
 use Rattle.rules.specs.Coherent.{Down, Coherent, Rooted}
@@ -90,18 +90,12 @@ module _ (U : Setup) (es : List Event) (p v : ℕ) (drops : ℕ → Bool) (k : �
 
   pub kind-idle : (e .kind ≡ 2 → ⊥) → (e .kind ≡ 3 → ⊥) → Idle
   unfolding viewOf
-  kind-idle two three = cases (isBy p e)
-    where
-      cases : (b : Bool)
-          → ((drops k || b && (isInvlpg e || isCr3Write e)) ≡ false) × ((drops k || b && (isCr3Write e || isInvlpg e && eqb (pageOf (U .tables) (e .a)) v)) ≡ false)
-      cases true = (simp (stays, ne-eqb (e .kind) 2 two, ne-eqb (e .kind) 3 three), simp (stays, ne-eqb (e .kind) 2 two, ne-eqb (e .kind) 3 three))
-      cases false = (simp stays, simp stays)
+  kind-idle two three = (
+    simp (stays, ne-eqb (e .kind) 2 two, ne-eqb (e .kind) 3 three, and-false),
+    simp (stays, ne-eqb (e .kind) 2 two, ne-eqb (e .kind) 3 three, and-false),
+  )
 
   -- an INVLPG spares the complete walks of other pages
   pub page-idle : e .kind ≡ 2 → (pageOf (U .tables) (e .a) ≡ v → ⊥) → viewOf U es p v drops .endsComplete k ≡ false
   unfolding viewOf
-  page-idle two ne = cases (isBy p e)
-    where
-      cases : (b : Bool) → (drops k || b && (isCr3Write e || isInvlpg e && eqb (pageOf (U .tables) (e .a)) v)) ≡ false
-      cases true = simp (stays, two, ne-eqb (pageOf (U .tables) (e .a)) v ne)
-      cases false = simp stays
+  page-idle two ne = simp (stays, two, ne-eqb (pageOf (U .tables) (e .a)) v ne, and-false)

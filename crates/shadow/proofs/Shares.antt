@@ -14,9 +14,10 @@ use borrow.Author.Tests.{eq-eqb, ne-eqb}
 use Rattle.paging.specs.Frame.{guest}
 use Rattle.paging.specs.Numbers.{sum, count, each}
 use Rattle.paging.proofs.Numbers.{set-zero}
-use Rattle.tables.specs.State.{Machine, Shadow, onPool, onRecords, levelOf, withRecord, tableCount, ownerOf, rootOf, owns}
+use Rattle.tables.specs.State.{Machine, Shadow, onPool, onRecords, recordSize, levelOf, withRecord, tableCount, homeOf, ownerOf, rootOf, owns}
 use Rattle.tables.specs.Steps.{zeroed, mayTake, freeCount, emptyOwn, emptyShare}
 use Rattle.tables.proofs.Takes.{level-other}
+use Rattle.tables.proofs.Owners.{owner-home}
 
 -- a run of numbers that pass
 count-run : (f : ℕ → Bool) (a n m : ℕ) → a + m ≤ n → ((k : ℕ) → a ≤ k → k < a + m → f k ≡ true) → m ≤ count n f
@@ -38,15 +39,15 @@ count-run f a (suc n) (suc m) h all =
 
 -- the level that a free record says
 level-free : (records : List ℕ) (t : ℕ) → levelOf (withRecord t 0 (guest 0) records) t ≡ 0
-level-free records t = getD-set-other (set records (2 * t) 0) (2 * t + 1) (2 * t) 0 0 (λ q. omega arith) ∙ set-zero records (2 * t)
+level-free records t = getD-set-other (set records (recordSize * t) 0) (recordSize * t + 1) (recordSize * t) 0 0 (λ q. omega arith) ∙ set-zero records (recordSize * t)
 
-module _ (M : Machine) (p t : ℕ) (own : owns M p t ≡ true) (below : eqb t (rootOf M p) ≡ false) where
+module _ (M : Machine) (p t : ℕ) (home : homeOf M t ≡ p) (below : eqb t (rootOf M p) ≡ false) where
   -- the turn at t frees it, and no other turn gives it a level
   own-turn : (s : Shadow) → levelOf (emptyOwn M p t s .records) t ≡ 0
-  own-turn s = simp (own, below) (level-free (s .records) t)
+  own-turn s = simp (eq-eqb (ownerOf M (s .records) t) p (owner-home M (s .records) t ∙ home), below) (level-free (s .records) t)
 
   other-turn : (k : ℕ) (s : Shadow) → (t ≡ k → ⊥) → levelOf (s .records) t ≡ 0 → levelOf (emptyOwn M p k s .records) t ≡ 0
-  other-turn k s ne z = go (owns M p k) (eqb k (rootOf M p))
+  other-turn k s ne z = go (owns M p (s .records) k) (eqb k (rootOf M p))
     where
       go : (a b : Bool) → levelOf (cond a (cond b (onPool (zeroed (M .tables) k) s) (onRecords (withRecord k 0 (guest 0)) (onPool (zeroed (M .tables) k) s))) s .records) t ≡ 0
       go false b = z
@@ -67,8 +68,8 @@ module _ (M : Machine) (some : 0 < M .share) (spare : M .tables .levels ≤ M .s
   share-within : rootOf M p + M .share ≤ tableCount M
   share-within = let l = mul-le-mul-right (M .share) h in omega (arith, add-mul p 1 (M .share), one-mul (M .share))
 
-  -- the tables after the root are p's
-  after-root : (k : ℕ) → rootOf M p + 1 ≤ k → k < rootOf M p + 1 + (M .tables .levels - 1) → ownerOf M k ≡ p
+  -- the tables after the root are of p's share
+  after-root : (k : ℕ) → rootOf M p + 1 ≤ k → k < rootOf M p + 1 + (M .tables .levels - 1) → homeOf M k ≡ p
   after-root k lo hi = div-eq-of-lt-le (M .share) (omega arith) (omega (arith, add-mul p 1 (M .share), one-mul (M .share)))
 
   -- AFTER EMPTYING, AS MANY TABLES ARE FREE AS LIE BELOW THE ROOT
@@ -79,7 +80,7 @@ module _ (M : Machine) (some : 0 < M .share) (spare : M .tables .levels ≤ M .s
     where
       may : (k : ℕ) → rootOf M p + 1 ≤ k → k < rootOf M p + 1 + (M .tables .levels - 1) → mayTake M p (each (tableCount M) (emptyOwn M p) s .records) k ≡ true
       may k lo hi =
-          let own = eq-eqb (ownerOf M k) p (after-root k lo hi) in
+          let home = after-root k lo hi in
           let below = ne-eqb k (rootOf M p) (λ q. omega arith) in
-          let free = emptied-level M p k own below (tableCount M) s (omega (arith, share-within)) in
-          simp (own, eq-eqb _ 0 free)
+          let free = emptied-level M p k home below (tableCount M) s (omega (arith, share-within)) in
+          simp (eq-eqb (homeOf M k) p home, eq-eqb _ 0 free)

@@ -15,7 +15,7 @@ use Rattle.paging.specs.Numbers.{isBetween}
 use Rattle.paging.proofs.Tests.{both}
 use Rattle.paging.proofs.Numbers.{all-at, between}
 use Rattle.tables.specs.declared.Sizes.{Sizes}
-use Rattle.tables.specs.State.{Machine, Shadow, machine64, tableCount, Sized}
+use Rattle.tables.specs.State.{Machine, Shadow, machine64, recordSize, tableCount, Sized}
 use Rattle.shadow.specs.After.{rangesFit, lengthsFit, poolFits}
 
 pub record Ranged (M : Machine) : Type 0 where
@@ -42,7 +42,7 @@ module _ (M : Machine) where
   pub record Exact (map : List ℕ) (s : Shadow) (slots : List ℕ) : Type 0 where
     pub guests : length map ≡ M .frames
     pub words : length (s .pool) ≡ frameWords * tableCount M
-    pub pairs : length (s .records) ≡ 2 * tableCount M
+    pub pairs : length (s .records) ≡ recordSize * tableCount M
     pub triples : length slots ≡ 24 * M .processors
 
   pub exact : (map : List ℕ) (s : Shadow) (slots : List ℕ) → lengthsFit M map s slots ≡ true → Exact map s slots
@@ -50,14 +50,14 @@ module _ (M : Machine) where
   exact map s slots e =
       let a = eqb (length map) (M .frames) in
       let b = eqb (length (s .pool)) (frameWords * tableCount M) in
-      let c = eqb (length (s .records)) (2 * tableCount M) in
+      let c = eqb (length (s .records)) (recordSize * tableCount M) in
       let h = both (a && b && c) (eqb (length slots) (24 * M .processors)) e in
       let k = both (a && b) c (h .0) in
       let l = both a b (k .0) in
       record {
         guests = eqb-true (length map) (M .frames) (l .0);
         words = eqb-true (length (s .pool)) (frameWords * tableCount M) (l .1);
-        pairs = eqb-true (length (s .records)) (2 * tableCount M) (k .1);
+        pairs = eqb-true (length (s .records)) (recordSize * tableCount M) (k .1);
         triples = eqb-true (length slots) (24 * M .processors) (h .1);
       }
 

@@ -20,7 +20,7 @@ use Rattle.tables.specs.declared.Walked.the-variants.{Whole, Fault}
 use Rattle.tables.specs.State.{Machine, State, stateOf, shadows, rootOf}
 use Rattle.tables.specs.Steps.{GuestWalk, guestWalk, byStep, walkFrom, walkGuest}
 use Rattle.shadow.specs.declared.Answer.the-variants.{Fault as Faulted, Again}
-use Rattle.shadow.specs.After.{Result, gives, dirtied, fill, afterWalk, afterMiss}
+use Rattle.shadow.specs.After.{Result, gives, dirtied, fill, faulted, afterWalk, afterMiss}
 
 abbrev pub InRange : ℕ → Walked → Type 0
 InRange limit (Whole last w) = (last .0 < limit) × (w .rights < 8)
@@ -66,11 +66,11 @@ module _ (M : Machine) (map : List ℕ) (p page : ℕ) (q : Request) (s : State)
         ap (λ (x : Walked). ends (guestWalk words x)) (sym same)
         ∙ ap ends (ed ∙ ap (walkGuest (M .tables) (M .frames) page (s .words)) (ec ∙ ap (shadows (s .shadow .records)) er))
 
-    pub miss-fault : {base : ℕ} → r ≡ Fault base → gives (Faulted (base + q .adds)) (stateOf words (s .shadow) (s .slots)) ≡ afterMiss M map p page q s
+    pub miss-fault : {base : ℕ} → r ≡ Fault base → gives (Faulted (base + q .adds)) (faulted M p page (stateOf words (s .shadow) (s .slots))) ≡ afterMiss M map p page q s
     miss-fault same = spelt same
 
     pub miss-lacks : {last : Guest} {w : Walk} → r ≡ Whole last w → enough q (w .rights) ≡ false
-        → gives (Faulted (1 + q .adds)) (stateOf words (s .shadow) (s .slots)) ≡ afterMiss M map p page q s
+        → gives (Faulted (1 + q .adds)) (faulted M p page (stateOf words (s .shadow) (s .slots))) ≡ afterMiss M map p page q s
     miss-lacks same lacks = simp lacks at (spelt same)
 
     pub miss-fills : {last : Guest} {w : Walk} → r ≡ Whole last w → enough q (w .rights) ≡ true → {words′ : List ℕ} {s′ : State}

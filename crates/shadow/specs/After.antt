@@ -19,7 +19,7 @@ use Rattle.rules.specs.History.{Setup, isStore, isInvlpg, isCr3Write, isAccess,
 use Rattle.tables.specs.declared.Walked.{Walked}
 use Rattle.tables.specs.declared.Walked.the-variants.{Whole, Fault}
 use Rattle.paging.specs.Numbers.{all, each, isBetween}
-use Rattle.tables.specs.State.{Machine, Shadow, shadowOf, onPool, onRecords, State, stateOf, shadows, withRecord, slotCount, markOf, pageIn, placeIn, rightsIn, withSlot, emptied, tableCount, rootOf, entryOf, withEntry, named, nextEntry, pathTo}
+use Rattle.tables.specs.State.{Machine, Shadow, shadowOf, onPool, onRecords, State, stateOf, recordSize, shadows, withRecord, slotCount, markOf, pageIn, placeIn, rightsIn, withSlot, emptied, tableCount, rootOf, entryOf, withEntry, named, nextEntry, pathTo}
 use Rattle.tables.specs.Steps.{servingSlot, flush, emptySlots, walkGuest, emptyShare, freeCount, settle, build}
 use Rattle.shadow.specs.declared.Answer.{Answer}
 use Rattle.shadow.specs.declared.Answer.the-variants.{Done, Address, Fault as Faulted, Again, NoStep, Refused}
@@ -176,14 +176,17 @@ module _ (M : Machine) where
       (build M map (s .words) p page (w .missing) (w .table) (w .frame) (d .shadow))
       (flush p page (s .slots)))
 
-  -- "A fault answers kind 2 with the code and changes nothing more."
-  -- "A completed walk that lacks a needed right gives base code 1."
+  -- "A fault … changes nothing more.": what a guest fault of p on a page leaves
+  abbrev pub faulted : ℕ → ℕ → State → State
+  faulted p page s = s
+
+  -- "A fault answers kind 2 with the code"; "A completed walk that lacks a needed right gives base code 1."
   abbrev pub afterWalk : List ℕ → ℕ → ℕ → Request → State → Walked → Result
-  afterWalk map p page q s (Fault base) = gives (Faulted (base + q .adds)) s
+  afterWalk map p page q s (Fault base) = gives (Faulted (base + q .adds)) (faulted p page s)
   afterWalk map p page q s (Whole last w) =
       cond (enough q (w .rights))
       (gives Again (fill map p page (stateOf (dirtied (M .tables) q page last (s .words)) (s .shadow) (s .slots))))
-      (gives (Faulted (1 + q .adds)) s)
+      (gives (Faulted (1 + q .adds)) (faulted p page s))
 
   -- "Else the guest tables are walked."
   unfoldable pub afterMiss : List ℕ → ℕ → ℕ → Request → State → Result
@@ -227,7 +230,7 @@ module _ (M : Machine) where
   lengthsFit map s slots =
       eqb (length map) (M .frames)
       && eqb (length (s .pool)) (frameWords * tableCount M)
-      && eqb (length (s .records)) (2 * tableCount M)
+      && eqb (length (s .records)) (recordSize * tableCount M)
       && eqb (length slots) (24 * M .processors)
 
   -- "2: a map frame repeats, is 2^40 or more, or lies in the pool; or the pool passes 2^40"
@@ -272,7 +275,7 @@ module _ (M : Machine) where
   abbrev pub started : List ℕ → List ℕ → State
   started cr3s words =
       stateOf words
-      (shadowOf (replicate (frameWords * tableCount M) 0) (rooted cr3s (replicate (2 * tableCount M) 0)))
+      (shadowOf (replicate (frameWords * tableCount M) 0) (rooted cr3s (replicate (recordSize * tableCount M) 0)))
       (replicate (24 * M .processors) 0)
 
   unfoldable pub setupRefusal : List ℕ → List ℕ → State → ℕ

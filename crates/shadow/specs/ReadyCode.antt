@@ -5,7 +5,7 @@ use Prim.Native.Nat.{ℕ, _+_, _*_, _^_, _≤_, _<_}
 use lib.ListN.{length, getD}
 use Rattle.rules.specs.declared.Event.{Event}
 use Rattle.tables.specs.declared.Sizes.{Sizes}
-use Rattle.tables.specs.State.{machine64, tableCount, rootOf, shadows, markOf, placeIn, Sized}
+use Rattle.tables.specs.State.{machine64, recordSize, tableCount, rootOf, shadows, markOf, placeIn, Sized}
 
 pub record Ready (z : Sizes) (map records slots : List ℕ) (p : ℕ) : Type 0 where
   pub sized : Sized z
@@ -13,7 +13,7 @@ pub record Ready (z : Sizes) (map records slots : List ℕ) (p : ℕ) : Type 0 w
   pub own : p < z .processors
   pub guests : length map ≤ 256
   pub hosts : (i : ℕ) → getD map i 0 < 2 ^ 40
-  pub pairs : length records ≡ 2 * tableCount (machine64 z)
+  pub pairs : length records ≡ recordSize * tableCount (machine64 z)
   pub triples : 24 * p + 24 ≤ length slots
   pub cr3 : shadows records (rootOf (machine64 z) p) .0 < 2 ^ 40
 

@@ -362,7 +362,7 @@ fn lengths_fit(map: &[u64], pool: &[u64], records: &[u64], slots: &[u64], z: Siz
     if pool.len() != 512 * n {
         return false;
     }
-    if records.len() != 2 * n {
+    if records.len() != tables::RECORD * n {
         return false;
     }
     slots.len() == 24 * (z.processors as usize)

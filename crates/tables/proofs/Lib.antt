@@ -1,4 +1,5 @@
 pub mod Names
+pub mod Owners
 pub mod Paths
 pub mod Counts
 pub mod Frees

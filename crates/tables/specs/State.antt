@@ -1,6 +1,6 @@
 -- "Shadow state", first paragraph: what a machine is, what its buffers hold, and where each number stands in them.
 use mathlib.Core.Path.{_≡_}
-use mathlib.Core.Bool.{Bool, cond, _&&_}
+use mathlib.Core.Bool.{Bool, true, cond, _&&_}
 use mathlib.Core.List.{List}
 use Prim.Native.Nat.{ℕ, zero, suc, _+_, _-_, _*_, _/_, _%_, _^_, _≤_, _<_}
 use lib.Dec.{eqb, ltb, leb}
@@ -8,21 +8,37 @@ use lib.ListN.{length, getD, set}
 use Rattle.paging.specs.declared.Guest.{Guest}
 use Rattle.paging.specs.Frame.{guest}
 use Rattle.paging.specs.Layout.{Layout, tables64, get, put, index, frameOf, rightsOf, isPresent}
+use Rattle.paging.specs.Numbers.{first}
 use Rattle.paging.specs.Walk.{meet}
+use Rattle.paging.proofs.Numbers.{first-found}
 use Rattle.tables.specs.declared.Sizes.{Sizes}
 use Rattle.tables.specs.declared.Path.{Path}
 use Rattle.tables.specs.declared.Spot.{Spot}
 
--- What never changes: tables of one layout, "G frames", "P processors", "a share of S shadow tables", the pool base.
+-- A way to pick one of the numbers below n that pass a test is fair if it picks one that passes, where there is one.
+abbrev pub Fair : (ℕ → (ℕ → Bool) → ℕ) → Type 0
+Fair pick = (n : ℕ) (f : ℕ → Bool) (k : ℕ) → k < n → f k ≡ true → (pick n f < n) × (f (pick n f) ≡ true)
+
+pub record Choice : Type 0 where
+  pub pick : ℕ → (ℕ → Bool) → ℕ
+  pub fair : Fair pick
+
+-- "lowest free number first"
+abbrev pub lowest : Choice
+lowest = record { pick = first; fair = first-found }
+
+-- What never changes: tables of one layout, "G frames", "P processors", "a share of S shadow tables", the pool base, and
+-- which of the tables that it may take a processor takes.
 pub record Machine : Type 0 where
   pub tables : Layout
   pub frames : ℕ
   pub processors : ℕ
   pub share : ℕ
   pub base : ℕ
+  pub choose : Choice
 
 abbrev pub machine64 : Sizes → Machine
-machine64 z = record { tables = tables64; frames = z .frames; processors = z .processors; share = z .share; base = z .base }
+machine64 z = record { tables = tables64; frames = z .frames; processors = z .processors; share = z .share; base = z .base; choose = lowest }
 
 -- the shadow tables: their entries, and their records
 pub record Shadow : Type 0 where
@@ -48,14 +64,17 @@ abbrev pub stateOf : List ℕ → Shadow → List ℕ → State
 stateOf w h l = record { words = w; shadow = h; slots = l }
 
 -- "A record is level (0 free) and guest frame shadowed"
+abbrev pub recordSize : ℕ
+recordSize = 2
+
 abbrev pub levelOf : List ℕ → ℕ → ℕ
-levelOf records t = getD records (2 * t) 0
+levelOf records t = getD records (recordSize * t) 0
 
 abbrev pub shadows : List ℕ → ℕ → Guest
-shadows records t = guest (getD records (2 * t + 1) 0)
+shadows records t = guest (getD records (recordSize * t + 1) 0)
 
 abbrev pub withRecord : ℕ → ℕ → Guest → List ℕ → List ℕ
-withRecord t level g records = set (set records (2 * t) level) (2 * t + 1) (g .0)
+withRecord t level g records = set (set records (recordSize * t) level) (recordSize * t + 1) (g .0)
 
 abbrev pub isFree : List ℕ → ℕ → Bool
 isFree records t = eqb (levelOf records t) 0
@@ -93,14 +112,19 @@ module _ (M : Machine) where
   abbrev pub tableCount : ℕ
   tableCount = M .processors * M .share
 
-  abbrev pub ownerOf : ℕ → ℕ
-  ownerOf t = t / M .share
+  -- the processor in whose share table t lies
+  abbrev pub homeOf : ℕ → ℕ
+  homeOf t = t / M .share
+
+  -- the processor that owns it, as the records say: that of its share
+  unfoldable pub ownerOf : List ℕ → ℕ → ℕ
+  ownerOf records t = homeOf t
 
   abbrev pub rootOf : ℕ → ℕ
   rootOf p = p * M .share
 
-  abbrev pub owns : ℕ → ℕ → Bool
-  owns p t = eqb (ownerOf t) p
+  abbrev pub owns : ℕ → List ℕ → ℕ → Bool
+  owns p records t = eqb (ownerOf records t) p
 
   -- entry i of table t
   abbrev pub entryCount : ℕ
@@ -149,7 +173,7 @@ pub record Sized (z : Sizes) : Type 0 where
 -- with the records of all tables
 pub record Room (z : Sizes) (records : List ℕ) : Type 0 where
   pub sized : Sized z
-  pub pairs : length records ≡ 2 * tableCount (machine64 z)
+  pub pairs : length records ≡ recordSize * tableCount (machine64 z)
 
 -- a fill stands on one of the tables
 pub record SpotFits (z : Sizes) (w : Spot) : Type 0 where

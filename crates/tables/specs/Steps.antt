@@ -16,7 +16,7 @@ use Rattle.tables.specs.declared.Spot.{Spot}
 use Rattle.tables.specs.declared.Walked.{Walked}
 use Rattle.tables.specs.declared.Walked.the-variants.{Whole, Fault}
 use Rattle.paging.specs.Numbers.{each, first, count}
-use Rattle.tables.specs.State.{Machine, Shadow, shadowOf, onPool, onRecords, shadows, withRecord, isFree, slotCount, markOf, pageIn, rightsIn, emptied, tableCount, rootOf, owns, entryCount, entryOf, withEntry, named}
+use Rattle.tables.specs.State.{Machine, Shadow, shadowOf, onPool, onRecords, shadows, withRecord, isFree, slotCount, markOf, pageIn, rightsIn, emptied, tableCount, homeOf, rootOf, owns, entryCount, entryOf, withEntry, named}
 
 -- "a complete walk of the page and enough rights"
 abbrev pub slotServes : List ℕ → ℕ → ℕ → Request → ℕ → Bool
@@ -120,22 +120,23 @@ module _ (M : Machine) where
       cond (eqb t (rootOf M p)) x (onRecords (withRecord t 0 (guest 0)) x)
 
   abbrev pub emptyOwn : ℕ → ℕ → Shadow → Shadow
-  emptyOwn p t s = cond (owns M p t) (emptyTable p t s) s
+  emptyOwn p t s = cond (owns M p (s .records) t) (emptyTable p t s) s
 
   unfoldable pub emptyShare : ℕ → Shadow → Shadow
   emptyShare p s = each (tableCount M) (emptyOwn p) s
 
   -- ---- taking
 
+  -- the free tables of p's share
   abbrev pub mayTake : ℕ → List ℕ → ℕ → Bool
-  mayTake p records t = owns M p t && isFree records t
+  mayTake p records t = eqb (homeOf M t) p && isFree records t
 
   unfoldable pub freeCount : ℕ → List ℕ → ℕ
   freeCount p records = count (tableCount M) (mayTake p records)
 
-  -- "lowest free number first"
+  -- the one that is taken next, by the machine's choice
   unfoldable pub taken : ℕ → List ℕ → ℕ
-  taken p records = first (tableCount M) (mayTake p records)
+  taken p records = M .choose .pick (tableCount M) (mayTake p records)
 
   -- entry i of t names u, with the guest entry's own rights r; u has a level and shadows a frame
   abbrev pub hang : ℕ → ℕ → ℕ → ℕ → Guest → ℕ → Shadow → Shadow

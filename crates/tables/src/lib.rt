@@ -5,7 +5,7 @@ ghost use lib.ListN.{length, getD};
 ghost use Rattle.paging.specs.Frame.{hostOf};
 ghost use Rattle.paging.specs.Layout.{tables64, get, put};
 ghost use Rattle.paging.specs.Walk.{meet};
-ghost use Rattle.tables.specs.State.{Sized, Room, SpotFits, machine64, shadowOf, levelOf, shadows, withRecord, tableCount, ownerOf, rootOf, named, down, pathTo};
+ghost use Rattle.tables.specs.State.{Sized, Room, SpotFits, machine64, shadowOf, recordSize, levelOf, shadows, withRecord, tableCount, homeOf, ownerOf, rootOf, named, down, pathTo};
 ghost use Rattle.tables.specs.Steps.{freeTable, cut, zeroed, emptyOwn, emptyShare, mayTake, freeCount, taken, hang, hangNext, leafOf, walkGuest, guestWalk, guestEntry, agrees, settle, settledAt, build};
 use paging::Guest;
 use paging::Host;
@@ -40,6 +40,9 @@ pub enum Walked {
     Fault(u64),
 }
 
+// A record is level and guest frame shadowed.
+pub const RECORD: usize = 2;
+
 // ---- entries, records, owners
 
 // Entry i of frame or table f; past the end it is absent.
@@ -65,7 +68,7 @@ pub fn level_of(records: &[u64], t: u64) -> u64
     requires { ⌜ t ≤ 64 ⌝ }
     ensures { λ r. ⌜ r ≡ levelOf (now (records .entry)) t ⌝ }
 {
-    let at = 2 * (t as usize);
+    let at = RECORD * (t as usize);
     if at < records.len() { records[at] } else { 0 }
 }
 
@@ -73,7 +76,7 @@ pub fn shadowed_by(records: &[u64], t: u64) -> Guest
     requires { ⌜ t ≤ 64 ⌝ }
     ensures { λ r. ⌜ r ≡ shadows (now (records .entry)) t ⌝ }
 {
-    let at = 2 * (t as usize) + 1;
+    let at = RECORD * (t as usize) + 1;
     if at < records.len() {
         Guest(records[at])
     } else {
@@ -82,10 +85,10 @@ pub fn shadowed_by(records: &[u64], t: u64) -> Guest
 }
 
 pub fn set_record(records: &mut [u64], t: u64, level: u64, g: Guest)
-    requires { ⌜ (t ≤ 64) × (2 * t + 2 ≤ length (now records)) ⌝ }
+    requires { ⌜ (t ≤ 64) × (recordSize * t + recordSize ≤ length (now records)) ⌝ }
     ensures { λ _. ⌜ now (records .exit) ≡ withRecord t level g (now (records .entry)) ⌝ }
 {
-    let at = 2 * (t as usize);
+    let at = RECORD * (t as usize);
     records[at] = level;
     records[at + 1] = g.0;
 }
@@ -97,11 +100,20 @@ pub fn table_count(z: Sizes) -> u64
     z.processors * z.share
 }
 
-pub fn owner_of(z: Sizes, t: u64) -> u64
+// The processor in whose share table t lies.
+pub fn home_of(z: Sizes, t: u64) -> u64
     requires { ⌜ Sized z ⌝ }
-    ensures { λ r. ⌜ r ≡ ownerOf (machine64 z) t ⌝ }
+    ensures { λ r. ⌜ r ≡ homeOf (machine64 z) t ⌝ }
 {
     t / z.share
+}
+
+// The processor that owns table t: that of its share, whatever its record says.
+pub fn owner_of(records: &[u64], z: Sizes, t: u64) -> u64
+    requires { ⌜ Sized z ⌝ }
+    ensures { λ r. ⌜ r ≡ ownerOf (machine64 z) (now (records .entry)) t ⌝ }
+{
+    home_of(z, t)
 }
 
 pub fn root_of(z: Sizes, p: u64) -> u64
@@ -217,7 +229,7 @@ fn empty_table(pool: &mut [u64], records: &mut [u64], z: Sizes, p: u64, t: u64)
     requires { ⌜ (p < z .processors) × (t < tableCount (machine64 z)) ⌝ }
     ensures { λ _. ⌜ shadowOf (now (pool .exit)) (now (records .exit)) ≡ emptyOwn (machine64 z) p t (shadowOf (now (pool .entry)) (now (records .entry))) ⌝ }
 {
-    if owner_of(z, t) != p {
+    if owner_of(records, z, t) != p {
         return;
     }
     zero_table(pool, t);
@@ -246,7 +258,7 @@ fn may_take(records: &[u64], z: Sizes, p: u64, t: u64) -> bool
     requires { ⌜ Sized z × (t ≤ 64) ⌝ }
     ensures { λ r. ⌜ r ≡ mayTake (machine64 z) p (now (records .entry)) t ⌝ }
 {
-    if owner_of(z, t) != p {
+    if home_of(z, t) != p {
         return false;
     }
     level_of(records, t) == 0
@@ -268,7 +280,7 @@ pub fn count_free(records: &[u64], z: Sizes, p: u64) -> u64
     free
 }
 
-// The table that p takes next: its lowest free one.
+// The table that p takes next: the lowest that it may take.
 pub fn next_free(records: &[u64], z: Sizes, p: u64) -> u64
     requires { ⌜ Sized z ⌝ }
     ensures { λ r. ⌜ r ≡ taken (machine64 z) p (now (records .entry)) ⌝ }

@@ -19,13 +19,13 @@ use Rattle.listing.proofs.Refuses.{or-second, list-later}
 use Rattle.sections.specs.Sections.{got, Puzzle, puzzleOf}
 use Rattle.puzzle.specs.Buffers.{wordsOf}
 use Rattle.puzzle.proofs.Accepted.{InRange, accepted}
-use Rattle.puzzle.proofs.Theorems as reads
-use Rattle.tables.specs.State.{machine64, shadowOf, stateOf}
-use Rattle.shadow.specs.After as machine
+use Rattle.tables.specs.State.{machine64, shadowOf, stateOf, recordSize}
 use Rattle.rules.specs.Refusal.{test, refusal}
 use Rattle.trainer.specs.Call.{posed}
 use Rattle.trainer.specs.Run.{sizesOf}
 use Rattle.trainer.specs.PartsCode.{Posed, Startable, Printable}
+use Rattle.puzzle.proofs.Theorems as reads
+use Rattle.shadow.specs.After as machine
 
 all-each : (n : ℕ) (f : ℕ → Bool) → ((k : ℕ) → k < n → f k ≡ true) → all n f ≡ true
 unfolding all
@@ -138,7 +138,7 @@ module _ (text : List ℕ) (z : Puzzle) (at : ℕ) (e : puzzleOf text ≡ got z 
           let r = range in
           let M = machine64 (sizesOf (z .map) (z .cr3s)) in
           no-test (machine.rangesFit M && machine.lengthsFit M (z .map) (shadowOf pool records) slots && eqb P P) (machine.framesFit M (z .map)) (cr3sFit G (z .cr3s))
-          (simp (le-leb 1 G (r .some), le-leb G 256 (omega (arith, r .frames)), le-leb 1 P (r .one), le-leb P 4 (r .processors), eq-eqb G G refl, eq-eqb P P refl, eq-eqb (length pool) (512 * (P * 4)) (omega arith), eq-eqb (length records) (2 * (P * 4)) (omega arith), eq-eqb (length slots) (24 * P) c))
+          (simp (le-leb 1 G (r .some), le-leb G 256 (omega (arith, r .frames)), le-leb 1 P (r .one), le-leb P 4 (r .processors), eq-eqb G G refl, eq-eqb P P refl, eq-eqb (length pool) (512 * (P * 4)) (omega arith), eq-eqb (length records) (recordSize * (P * 4)) (omega arith), eq-eqb (length slots) (24 * P) c))
           frames-fit cr3s-fit
 
   pub ready : Printable (posed z)

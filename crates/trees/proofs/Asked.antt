@@ -8,10 +8,10 @@ use native.Mathlib.Omega.{arith}
 use lib.Dec.{eqb, ltb, leb}
 use borrow.Author.Tests.{eq-eqb, ne-eqb, lt-ltb, le-leb, lt-leb, eqb-true, eqb-false, ltb-true, leb-true}
 use Rattle.paging.proofs.Tests.{both, positive}
-use Rattle.tables.specs.State.{Machine, Shadow, ownerOf, named}
+use Rattle.tables.specs.State.{Machine, Shadow, named}
 use Rattle.lawful.specs.Rules.{isLeaf, isLaidOut, namesLower, isRoot, namesOf, recordRight, entryRight}
 use Rattle.trees.proofs.Tests.{false-true, beq-true, beq-same, five, or-true}
-use Rattle.trees.proofs.Trees.{lev, shd, Branch}
+use Rattle.trees.proofs.Trees.{lev, shd, own, Branch}
 
 -- ---- a record
 
@@ -96,7 +96,7 @@ module _ (M : Machine) (map : List ℕ) (s : Shadow) (t e : ℕ) where
         ne-eqb n 0 (λ q. omega arith),
         ne-eqb n 1 (λ q. omega arith),
         b .made,
-        eq-eqb (ownerOf M (named M e)) (ownerOf M t) (b .owner),
+        eq-eqb (own M s (named M e)) (own M s t) (b .owner),
         eq-eqb (lev M s (named M e) + 1) n (b .lower),
         or-true,
       )
@@ -133,9 +133,9 @@ module _ (M : Machine) (map : List ℕ) (s : Shadow) (t e : ℕ) where
         go : (b : Bool) → eqb e 0 ≡ b → (e ≡ 0) ⊎ Branch M s t e
         go true z = inl (eqb-true e 0 z)
         go false z =
-            let r = both (eqb (ownerOf M (named M e)) (ownerOf M t)) (eqb (lev M s (named M e) + 1) n) (simp (z, lt-leb n 1 h) at lower) in
+            let r = both (eqb (own M s (named M e)) (own M s t)) (eqb (lev M s (named M e) + 1) n) (simp (z, lt-leb n 1 h) at lower) in
             inr (record {
               made = simp (z, ne-eqb n 0 (λ q. omega arith), ne-eqb n 1 (λ q. omega arith)) at laid;
-              owner = eqb-true (ownerOf M (named M e)) (ownerOf M t) (r .0);
+              owner = eqb-true (own M s (named M e)) (own M s t) (r .0);
               lower = eqb-true (lev M s (named M e) + 1) n (r .1);
             })

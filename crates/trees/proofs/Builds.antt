@@ -5,6 +5,7 @@ use mathlib.Core.List.{List}
 use mathlib.Core.Logic.{inr}
 use Prim.Native.Nat.{ℕ, zero, suc, _+_, _-_, _*_, _^_, _≤_, _<_}
 use native.Mathlib.Omega.{arith}
+use lib.Dec.{eqb}
 use lib.ListN.{length, getD}
 use borrow.Author.Tests.{eqb-true}
 use Rattle.paging.specs.declared.Guest.{Guest}
@@ -15,13 +16,13 @@ use Rattle.paging.proofs.Tests.{both}
 use Rattle.paging.proofs.Indices.{index-small}
 use Rattle.paging.proofs.Rights.{rights-small}
 use Rattle.tables.specs.declared.Path.{Path}
-use Rattle.tables.specs.State.{Machine, Shadow, onPool, isFree, tableCount, ownerOf, rootOf, owns, entryCount, withEntry, named, top, nextEntry, descend, pathTo}
-use Rattle.tables.specs.Steps.{Settled, spot, guestEntry, leafOf, settle, hang, build, taken, mayTake, freeCount, emptyShare}
-use Rattle.tables.proofs.Takes.{taken-table, hang-count}
-use Rattle.trees.proofs.Trees.{Able, Outside, ent, lev, shd, Trees, Less}
+use Rattle.tables.specs.State.{Machine, Shadow, onPool, isFree, tableCount, homeOf, rootOf, entryCount, withEntry, named, top, nextEntry, descend, pathTo}
+use Rattle.tables.specs.Steps.{Settled, spot, guestEntry, leafOf, settle, hang, build, taken, freeCount, emptyShare}
+use Rattle.tables.proofs.Takes.{taken-may, hang-count}
+use Rattle.tables.proofs.Owners.{owner-home, owner-kept}
+use Rattle.trees.proofs.Trees.{Able, Outside, ent, lev, shd, own, Trees, Less}
 use Rattle.trees.proofs.Entries.{made-names, made-rights}
 use Rattle.trees.proofs.Roots.{root-table, root-owner, root-level}
-use Rattle.trees.proofs.Counts.{first-passes}
 use Rattle.trees.proofs.Hangs.{hang-trees, hang-entry, hang-beside, hang-others, hang-empty}
 use Rattle.trees.proofs.Leaves.{leaf-beside, leaf-trees, Filled, leafOf-right}
 use Rattle.trees.proofs.Shares.{share-trees, share-less, share-others, share-own, share-root}
@@ -41,7 +42,7 @@ module _ (M : Machine) (ok : Able M) (map : List ℕ) (outside : Outside M map) 
   abbrev Stands : Shadow → ℕ → ℕ → Guest → Type 0
   Stands = settling.Stands M ok map outside words p hp page last f x
 
-  leveled : (s : Shadow) → Trees M map s → {m t : ℕ} {g : Guest} → Stands s m t g → (lev M s t ≡ suc m) × (ownerOf M t ≡ p)
+  leveled : (s : Shadow) → Trees M map s → {m t : ℕ} {g : Guest} → Stands s m t g → (lev M s t ≡ suc m) × (own M s t ≡ p)
   leveled = settling.leveled M ok map outside words p hp page last f x
 
   -- the page's path after a fill: down to a level 1 entry that is made of the guest's
@@ -93,11 +94,12 @@ module _ (M : Machine) (ok : Able M) (map : List ℕ) (outside : Outside M map) 
     leaf t g s trees h = record {
       trees = leaf-trees M ok map outside s trees t (index Y page 1) new (h .table) level (index-small Y page 1) (made .small) (inr (made .leaf));
       stays = record {
-        others = λ v hv ne. record {
+        others = λ v hv o. record {
           entries = λ i hi. leaf-beside M ok map outside s trees t (index Y page 1) new (h .table) level (index-small Y page 1) (made .small) (inr (made .leaf)) v i hi
-              (λ q r. ne (ap (ownerOf M) q ∙ leveled s trees h .1));
+              (λ q r. o .other (ap (own M s) q ∙ leveled s trees h .1));
           level = refl;
           frame = refl;
+          owner = refl;
         };
         root = refl;
       };
@@ -150,21 +152,21 @@ module _ (M : Machine) (ok : Able M) (map : List ℕ) (outside : Outside M map) 
       level : lev M s t ≡ suc (suc m)
       level = leveled s trees h .0
 
-      owner : ownerOf M t ≡ p
+      owner : own M s t ≡ p
       owner = leveled s trees h .1
 
       u-in : u < tableCount M
-      u-in = taken-table M p (s .records) free
+      u-in = taken-may M p (s .records) free .0
 
-      u-may : mayTake M p (s .records) u ≡ true
-      unfolding taken
-      u-may = first-passes (mayTake M p (s .records)) (tableCount M) 0 (omega (arith, taken-table M p (s .records) free))
+      u-may : (eqb (homeOf M u) p ≡ true) × (isFree (s .records) u ≡ true)
+      u-may = both (eqb (homeOf M u) p) (isFree (s .records) u) (taken-may M p (s .records) free .1)
 
-      u-own : ownerOf M u ≡ p
-      u-own = eqb-true (ownerOf M u) p (both (owns M p u) (isFree (s .records) u) u-may .0)
+      -- it is of p's share, and so p's, before and after
+      u-own : (x : Shadow) → own M x u ≡ p
+      u-own x = owner-home M (x .records) u ∙ eqb-true (homeOf M u) p (u-may .0)
 
       u-free : lev M s u ≡ 0
-      u-free = eqb-true (lev M s u) 0 (both (owns M p u) (isFree (s .records) u) u-may .1)
+      u-free = eqb-true (lev M s u) 0 (u-may .1)
 
       grants : M .tables .nxAlone ≡ 0 → bit (rightsOf Y e) 2 ≡ 1
       grants = ok .grants e
@@ -172,22 +174,22 @@ module _ (M : Machine) (ok : Able M) (map : List ℕ) (outside : Outside M map) 
       hung-trees : Trees M map s₁
       hung-trees =
           hang-trees M ok map outside s trees t i u (suc m) (guest (frameOf Y e)) (rightsOf Y e) (h .table) (index-small Y page (suc (suc m))) level (omega arith) absent
-          u-in u-free (u-own ∙ sym owner) (h .leads .1) (rights-small Y e) grants
+          u-in u-free (u-own s₁ ∙ sym owner) (h .leads .1) (rights-small Y e) grants
 
       hung-entry : ent M s₁ t i ≡ compose Y (rightsOf Y e) 0 (M .base + u)
       hung-entry =
           hang-entry M ok map outside s trees t i u (suc m) (guest (frameOf Y e)) (rightsOf Y e) (h .table) (index-small Y page (suc (suc m))) level (omega arith) absent
-          u-in u-free (u-own ∙ sym owner) (h .leads .1) (rights-small Y e) grants
+          u-in u-free (u-own s₁ ∙ sym owner) (h .leads .1) (rights-small Y e) grants
 
       hung-beside : (v k : ℕ) → k < entryCount M → (v ≡ t → k ≡ i → ⊥) → ent M s₁ v k ≡ ent M s v k
       hung-beside =
           hang-beside M ok map outside s trees t i u (suc m) (guest (frameOf Y e)) (rightsOf Y e) (h .table) (index-small Y page (suc (suc m))) level (omega arith) absent
-          u-in u-free (u-own ∙ sym owner) (h .leads .1) (rights-small Y e) grants
+          u-in u-free (u-own s₁ ∙ sym owner) (h .leads .1) (rights-small Y e) grants
 
       hung-others : (v : ℕ) → (v ≡ u → ⊥) → (lev M s₁ v ≡ lev M s v) × (shd M s₁ v ≡ shd M s v)
       hung-others =
           hang-others M ok map outside s trees t i u (suc m) (guest (frameOf Y e)) (rightsOf Y e) (h .table) (index-small Y page (suc (suc m))) level (omega arith) absent
-          u-in u-free (u-own ∙ sym owner) (h .leads .1) (rights-small Y e) grants
+          u-in u-free (u-own s₁ ∙ sym owner) (h .leads .1) (rights-small Y e) grants
 
       still-stands : Stands s₁ (suc m) t g
       still-stands =
@@ -203,16 +205,17 @@ module _ (M : Machine) (ok : Able M) (map : List ℕ) (outside : Outside M map) 
       hung-absent : ent M s₁ u (index Y page (suc m)) ≡ 0
       hung-absent =
           hang-empty M ok map outside s trees t i u (suc m) (guest (frameOf Y e)) (rightsOf Y e) (h .table) (index-small Y page (suc (suc m))) level (omega arith) absent
-          u-in u-free (u-own ∙ sym owner) (h .leads .1) (rights-small Y e) grants (index Y page (suc m)) (index-small Y page (suc m))
+          u-in u-free (u-own s₁ ∙ sym owner) (h .leads .1) (rights-small Y e) grants (index Y page (suc m)) (index-small Y page (suc m))
 
       hung-stays : Stays M p s s₁
       hung-stays = record {
-        others = λ v hv ne.
-            let r = hung-others v (λ q. ne (ap (ownerOf M) q ∙ u-own)) in
+        others = λ v hv o.
+            let r = hung-others v (λ q. o .other (ap (own M s) q ∙ u-own s)) in
             record {
-              entries = λ k hk. hung-beside v k hk (λ q w. ne (ap (ownerOf M) q ∙ owner));
+              entries = λ k hk. hung-beside v k hk (λ q w. o .other (ap (own M s) q ∙ owner));
               level = r .0;
               frame = r .1;
+              owner = owner-kept M (s .records) (s₁ .records) v;
             };
         root = hung-others (rootOf M p) (λ q. omega (arith, u-free, root-level M ok map s trees p hp, ap (lev M s) q, ok .upper)) .1;
       }
@@ -283,11 +286,11 @@ module _ (M : Machine) (ok : Able M) (map : List ℕ) (outside : Outside M map) 
             → Built s (build M map words p page (L - 1) (rootOf M p) cr3 (emptyShare M p (d .shadow)))
         refilled free =
             let empty = share-trees M ok map outside (d .shadow) (settled .trees) p hp in
-            let own = share-own M ok map outside (d .shadow) (settled .trees) p hp (rootOf M p) (root-table M ok p hp) (root-owner M ok p) in
+            let own = share-own M ok map outside (d .shadow) (settled .trees) p hp (rootOf M p) (root-table M ok p hp) (root-owner M ok (d .shadow) p) in
             built-trans (settled .stays) (less-old trees (settled .trees) (settled .less))
             (built-trans
             (record {
-              others = share-others M ok map outside (d .shadow) (settled .trees) p hp;
+              others = λ v hv o. share-others M ok map outside (d .shadow) (settled .trees) p hp v hv (o .other);
               root = share-root M ok map outside (d .shadow) (settled .trees) p hp .1;
             })
             (less-old (settled .trees) empty (share-less M ok map outside (d .shadow) (settled .trees) p hp))

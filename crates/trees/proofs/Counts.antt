@@ -1,5 +1,5 @@
--- Searches and counts: a test passes at all numbers if it passes at each, the first number found passes, and a count over
--- pairs is 1 exactly if one pair passes and any two that pass are equal.
+-- Tests and counts: a test passes at all numbers if it passes at each, and a count over pairs is 1 exactly if one pair
+-- passes and any two that pass are equal.
 use mathlib.Core.Path.{_≡_, refl, ap, _∙_}
 use mathlib.Core.Bool.{Bool, true, false, cond}
 use mathlib.Core.Logic.{⊎-elim}
@@ -7,23 +7,13 @@ use Prim.Native.Nat.{ℕ, zero, suc, _+_, _≤_, _<_}
 use native.Mathlib.Nat.{eq-or-lt-of-le}
 use native.Mathlib.Decide.{decLt}
 use native.Mathlib.Omega.{arith}
-use Rattle.paging.specs.Numbers.{all, firstFrom, sum, count}
+use Rattle.paging.specs.Numbers.{all, sum, count}
 use Rattle.tables.proofs.Takes.{count-some}
 
 pub all-i : (f : ℕ → Bool) (n : ℕ) → ((i : ℕ) → i < n → f i ≡ true) → all n f ≡ true
 unfolding all
 all-i f zero h = refl
 all-i f (suc n) h = simp (all-i f n (λ i l. h i (omega arith)), h n (omega arith))
-
-pub first-passes : (t : ℕ → Bool) (n i : ℕ) → firstFrom i n t < i + n → t (firstFrom i n t) ≡ true
-unfolding firstFrom
-first-passes t zero i h = absurd (omega arith)
-first-passes t (suc n) i h = go (t i) refl h (first-passes t n (i + 1))
-  where
-    go : (b : Bool) → t i ≡ b → cond b i (firstFrom (i + 1) n t) < i + suc n → (firstFrom (i + 1) n t < i + 1 + n → t (firstFrom (i + 1) n t) ≡ true)
-        → t (cond b i (firstFrom (i + 1) n t)) ≡ true
-    go true q h more = q
-    go false q h more = more (omega arith)
 
 -- ---- sums
 

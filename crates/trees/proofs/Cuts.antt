@@ -8,10 +8,11 @@ use native.Mathlib.Decide.{ℕ-discrete}
 use native.Mathlib.Omega.{arith}
 use lib.Dec.{eqb}
 use borrow.Author.Tests.{ne-eqb}
-use Rattle.tables.specs.State.{Machine, Shadow, tableCount, ownerOf, entryCount, named}
+use Rattle.tables.specs.State.{Machine, Shadow, tableCount, entryCount, named}
+use Rattle.tables.proofs.Owners.{owner-kept}
 use Rattle.tables.specs.Steps.{cut}
 use Rattle.lawful.specs.Rules.{isLeaf, isRoot}
-use Rattle.trees.proofs.Trees.{Able, Outside, ent, lev, shd, Names, Branch, Trees, Less, Same}
+use Rattle.trees.proofs.Trees.{Able, Outside, ent, lev, shd, own, Names, Branch, Trees, Less, Same}
 use Rattle.trees.proofs.Entries.{zero-names-none, names-by, branch-names}
 use Rattle.trees.proofs.Falls.{live}
 use Rattle.trees.proofs.Prunes.{Below, Cleared, Zeroed, Pruned, Onward, still, cut-onward, frees}
@@ -60,6 +61,9 @@ module _ (M : Machine) (ok : Able M) (map : List ℕ) (outside : Outside M map) 
   pub cut-record : (lev M s′ t ≡ lev M s t) × (shd M s′ t ≡ shd M s t)
   cut-record = by-record t ht (λ same. same) (λ c. absurd (omega (arith, c .below .lower)))
 
+  owner-same : (v : ℕ) → own M s′ v ≡ own M s v
+  owner-same = owner-kept M (s .records) (s′ .records)
+
   -- neither t nor below it
   untouched : (v : ℕ) → v < tableCount M → (Below M s t i v → ⊥) → (v ≡ t → ⊥) → Same M s s′ v
   untouched v hv out ne = record {
@@ -67,6 +71,7 @@ module _ (M : Machine) (ok : Able M) (map : List ℕ) (outside : Outside M map) 
         by-entry v hv k hk (λ e. e) (λ d. ⊎-elim (λ (b : Below M s t i v). absurd (out b)) (λ (q : (v ≡ t) × (k ≡ i)). absurd (ne (q .0))) (d .cuttable));
     level = by-record v hv (λ same. same .0) (λ c. absurd (out (c .below)));
     frame = by-record v hv (λ same. same .1) (λ c. absurd (out (c .below)));
+    owner = owner-same v;
   }
 
   pub cut-upper : (v : ℕ) → v < tableCount M → lev M s t < lev M s v → Same M s s′ v
@@ -75,8 +80,8 @@ module _ (M : Machine) (ok : Able M) (map : List ℕ) (outside : Outside M map) 
   pub cut-level : (v : ℕ) → v < tableCount M → lev M s v ≡ lev M s t → (v ≡ t → ⊥) → Same M s s′ v
   cut-level v hv e ne = untouched v hv (λ b. omega (arith, b .lower)) ne
 
-  pub cut-others : (v : ℕ) → v < tableCount M → (ownerOf M v ≡ ownerOf M t → ⊥) → Same M s s′ v
-  cut-others v hv ne = untouched v hv (λ b. ne (b .owner)) (λ q. ne (ap (ownerOf M) q))
+  pub cut-others : (v : ℕ) → v < tableCount M → (own M s v ≡ own M s t → ⊥) → Same M s s′ v
+  cut-others v hv ne = untouched v hv (λ b. ne (b .owner)) (λ q. ne (ap (own M s) q))
 
   -- a live table has its record
   pub cut-kept : (v : ℕ) → v < tableCount M → 0 < lev M s′ v → (lev M s′ v ≡ lev M s v) × (shd M s′ v ≡ shd M s v)
@@ -149,7 +154,7 @@ module _ (M : Machine) (ok : Able M) (map : List ℕ) (outside : Outside M map) 
 
       go : Dec (lev M s′ w ≡ 0) → (ent M s′ v k ≡ 0) ⊎ Branch M s′ v (ent M s v k)
       go (yes z) = ⊎-elim (λ (q : w ≡ tableCount M). absurd (omega (arith, m .is))) (λ gone. inl gone) (pruned .names m z)
-      go (no up) = let low = cut-kept w (m .is) (omega arith) .0 in inr (record { made = b .made; owner = b .owner; lower = omega (arith, b .lower) })
+      go (no up) = let low = cut-kept w (m .is) (omega arith) .0 in inr (record { made = b .made; owner = owner-same w ∙ b .owner ∙ sym (owner-same v); lower = omega (arith, b .lower) })
 
   branch : (v : ℕ) → v < tableCount M → 1 < lev M s′ v → (k : ℕ) → k < entryCount M → (ent M s′ v k ≡ 0) ⊎ Branch M s′ v (ent M s′ v k)
   branch v hv h k hk =

@@ -10,17 +10,11 @@ use borrow.Author.Tests.{eqb-true, eqb-false}
 use Rattle.paging.specs.Frame.{guest}
 use Rattle.paging.specs.Layout.{put}
 use Rattle.paging.specs.Numbers.{each}
-use Rattle.tables.specs.State.{Machine, Shadow, onPool, onRecords, withRecord, tableCount, ownerOf, rootOf, owns, entryCount, withEntry}
+use Rattle.tables.specs.State.{Machine, Shadow, onPool, onRecords, withRecord, tableCount, rootOf, owns, entryCount, withEntry}
 use Rattle.tables.specs.Steps.{zeroed, emptyOwn, emptyShare}
-use Rattle.trees.proofs.Trees.{Able, Exact, ent, lev, shd, Same}
+use Rattle.tables.proofs.Owners.{owner-kept}
+use Rattle.trees.proofs.Trees.{Able, Exact, ent, lev, shd, own, Same, same-trans}
 use Rattle.trees.proofs.Entries.{entry-here, entry-other, entry-exact, level-here, frame-here, level-other, frame-other, record-exact}
-
-same-trans : {M : Machine} {s x y : Shadow} {v : ℕ} → Same M s x v → Same M x y v → Same M s y v
-same-trans a b = record {
-  entries = λ k h. b .entries k h ∙ a .entries k h;
-  level = b .level ∙ a .level;
-  frame = b .frame ∙ a .frame;
-}
 
 module _ (M : Machine) (ok : Able M) where
   -- ---- zeroing a table
@@ -59,30 +53,36 @@ module _ (M : Machine) (ok : Able M) where
   -- of the tables from lo to below hi, those of p were emptied
   pub record Emptied (p lo hi : ℕ) (s s′ : Shadow) : Type 0 where
     pub exact : Exact M s′
-    pub own : (v : ℕ) → lo ≤ v → v < hi → ownerOf M v ≡ p → (k : ℕ) → k < entryCount M → ent M s′ v k ≡ 0
-    pub free : (v : ℕ) → lo ≤ v → v < hi → ownerOf M v ≡ p → (v ≡ rootOf M p → ⊥) → (lev M s′ v ≡ 0) × (shd M s′ v ≡ 0)
+    pub zeros : (v : ℕ) → lo ≤ v → v < hi → own M s v ≡ p → (k : ℕ) → k < entryCount M → ent M s′ v k ≡ 0
+    pub free : (v : ℕ) → lo ≤ v → v < hi → own M s v ≡ p → (v ≡ rootOf M p → ⊥) → (lev M s′ v ≡ 0) × (shd M s′ v ≡ 0)
     pub root : (lev M s′ (rootOf M p) ≡ lev M s (rootOf M p)) × (shd M s′ (rootOf M p) ≡ shd M s (rootOf M p))
-    pub others : (v : ℕ) → (lo ≤ v → v < hi → ownerOf M v ≡ p → ⊥) → Same M s s′ v
+    pub others : (v : ℕ) → (lo ≤ v → v < hi → own M s v ≡ p → ⊥) → Same M s s′ v
 
   emptied-on : {p lo mid hi : ℕ} {s x y : Shadow} → lo ≤ mid → mid ≤ hi → Emptied p lo mid s x → Emptied p mid hi x y → Emptied p lo hi s y
   emptied-on {p} {lo} {mid} {hi} {s} {x} {y} h₁ h₂ a b = record {
     exact = b .exact;
-    own = λ v l u o k hk. own v l u o k hk (decLt v mid);
+    zeros = λ v l u o k hk. zeros v l u o k hk (decLt v mid);
     free = λ v l u o ne. free v l u o ne (decLt v mid);
     root = (b .root .0 ∙ a .root .0, b .root .1 ∙ a .root .1);
-    others = λ v no-one. same-trans (a .others v (λ l u o. no-one l (omega arith) o)) (b .others v (λ l u o. no-one (omega arith) u o));
+    others = λ v no-one.
+        let first = a .others v (λ l u o. no-one l (omega arith) o) in
+        same-trans first (b .others v (λ l u o. no-one (omega arith) u (sym (first .owner) ∙ o)));
   }
     where
       kept : (v : ℕ) → v < mid → Same M x y v
       kept v lt = b .others v (λ l u o. omega arith)
 
-      own : (v : ℕ) → lo ≤ v → v < hi → ownerOf M v ≡ p → (k : ℕ) → k < entryCount M → Dec (v < mid) → ent M y v k ≡ 0
-      own v l u o k hk (yes lt) = kept v lt .entries k hk ∙ a .own v l lt o k hk
-      own v l u o k hk (no ge) = b .own v (omega arith) u o k hk
+      -- a table whose turn comes later has its owner still
+      owned : (v : ℕ) → (v < mid → ⊥) → own M s v ≡ p → own M x v ≡ p
+      owned v ge o = a .others v (λ l u o. ge u) .owner ∙ o
 
-      free : (v : ℕ) → lo ≤ v → v < hi → ownerOf M v ≡ p → (v ≡ rootOf M p → ⊥) → Dec (v < mid) → (lev M y v ≡ 0) × (shd M y v ≡ 0)
+      zeros : (v : ℕ) → lo ≤ v → v < hi → own M s v ≡ p → (k : ℕ) → k < entryCount M → Dec (v < mid) → ent M y v k ≡ 0
+      zeros v l u o k hk (yes lt) = kept v lt .entries k hk ∙ a .zeros v l lt o k hk
+      zeros v l u o k hk (no ge) = b .zeros v (omega arith) u (owned v ge o) k hk
+
+      free : (v : ℕ) → lo ≤ v → v < hi → own M s v ≡ p → (v ≡ rootOf M p → ⊥) → Dec (v < mid) → (lev M y v ≡ 0) × (shd M y v ≡ 0)
       free v l u o ne (yes lt) = let f = a .free v l lt o ne in (kept v lt .level ∙ f .0, kept v lt .frame ∙ f .1)
-      free v l u o ne (no ge) = b .free v (omega arith) u o ne
+      free v l u o ne (no ge) = b .free v (omega arith) u (owned v ge o) ne
 
   module _ (p n : ℕ) (x : Shadow) (exact : Exact M x) (table : n < tableCount M) where
     abbrev z : Shadow
@@ -94,34 +94,34 @@ module _ (M : Machine) (ok : Able M) where
     only : {v : ℕ} → n ≤ v → v < suc n → v ≡ n
     only l u = omega arith
 
-    zeros : (v : ℕ) → n ≤ v → v < suc n → (k : ℕ) → k < entryCount M → ent M z v k ≡ 0
-    zeros v l u k hk = ap (λ (t : ℕ). ent M z t k) (only l u) ∙ cleared .zeros k hk hk
+    bare : (v : ℕ) → n ≤ v → v < suc n → (k : ℕ) → k < entryCount M → ent M z v k ≡ 0
+    bare v l u k hk = ap (λ (t : ℕ). ent M z t k) (only l u) ∙ cleared .zeros k hk hk
 
-    not-mine : (ownerOf M n ≡ p → ⊥) → Emptied p n (suc n) x x
+    not-mine : (own M x n ≡ p → ⊥) → Emptied p n (suc n) x x
     not-mine ne = record {
       exact = exact;
-      own = λ v l u o. absurd (ne (ap (ownerOf M) (sym (only l u)) ∙ o));
-      free = λ v l u o. absurd (ne (ap (ownerOf M) (sym (only l u)) ∙ o));
+      zeros = λ v l u o. absurd (ne (ap (own M x) (sym (only l u)) ∙ o));
+      free = λ v l u o. absurd (ne (ap (own M x) (sym (only l u)) ∙ o));
       root = (refl, refl);
-      others = λ v no-one. record { entries = λ k hk. refl; level = refl; frame = refl };
+      others = λ v no-one. record { entries = λ k hk. refl; level = refl; frame = refl; owner = refl };
     }
 
-    other : (v : ℕ) → ownerOf M n ≡ p → (n ≤ v → v < suc n → ownerOf M v ≡ p → ⊥) → v ≡ n → ⊥
-    other v mine no-one q = no-one (omega arith) (omega arith) (ap (ownerOf M) q ∙ mine)
+    other : (v : ℕ) → own M x n ≡ p → (n ≤ v → v < suc n → own M x v ≡ p → ⊥) → v ≡ n → ⊥
+    other v mine no-one q = no-one (omega arith) (omega arith) (ap (own M x) q ∙ mine)
 
-    the-root : ownerOf M n ≡ p → n ≡ rootOf M p → Emptied p n (suc n) x z
+    the-root : own M x n ≡ p → n ≡ rootOf M p → Emptied p n (suc n) x z
     the-root mine is = record {
       exact = cleared .exact;
-      own = λ v l u o. zeros v l u;
+      zeros = λ v l u o. bare v l u;
       free = λ v l u o ne. absurd (ne (only l u ∙ is));
       root = (refl, refl);
-      others = λ v no-one. record { entries = λ k hk. cleared .others v k hk (other v mine no-one); level = refl; frame = refl };
+      others = λ v no-one. record { entries = λ k hk. cleared .others v k hk (other v mine no-one); level = refl; frame = refl; owner = refl };
     }
 
-    below-root : ownerOf M n ≡ p → (n ≡ rootOf M p → ⊥) → Emptied p n (suc n) x (onRecords (withRecord n 0 (guest 0)) z)
+    below-root : own M x n ≡ p → (n ≡ rootOf M p → ⊥) → Emptied p n (suc n) x (onRecords (withRecord n 0 (guest 0)) z)
     below-root mine below = record {
       exact = record-exact M ok z (cleared .exact) n 0 (guest 0) table;
-      own = λ v l u o. zeros v l u;
+      zeros = λ v l u o. bare v l u;
       free = λ v l u o ne. (
         ap (lev M (onRecords (withRecord n 0 (guest 0)) z)) (only l u) ∙ level-here M ok z (cleared .exact) n 0 (guest 0) table,
         ap (shd M (onRecords (withRecord n 0 (guest 0)) z)) (only l u) ∙ frame-here M ok z (cleared .exact) n 0 (guest 0) table,
@@ -131,6 +131,7 @@ module _ (M : Machine) (ok : Able M) where
         entries = λ k hk. cleared .others v k hk (other v mine no-one);
         level = level v (other v mine no-one);
         frame = frame v (other v mine no-one);
+        owner = owner-kept M (x .records) _ v;
       };
     }
       where
@@ -141,21 +142,21 @@ module _ (M : Machine) (ok : Able M) where
         frame = frame-other M ok z (cleared .exact) n 0 (guest 0) table
 
     emptied-turn : Emptied p n (suc n) x (emptyOwn M p n x)
-    emptied-turn = go (owns M p n) (eqb n (rootOf M p)) refl refl
+    emptied-turn = go (owns M p (x .records) n) (eqb n (rootOf M p)) refl refl
       where
-        go : (b c : Bool) → owns M p n ≡ b → eqb n (rootOf M p) ≡ c → Emptied p n (suc n) x (cond b (cond c z (onRecords (withRecord n 0 (guest 0)) z)) x)
-        go false c e f = not-mine (eqb-false (ownerOf M n) p e)
-        go true true e f = the-root (eqb-true (ownerOf M n) p e) (eqb-true n (rootOf M p) f)
-        go true false e f = below-root (eqb-true (ownerOf M n) p e) (eqb-false n (rootOf M p) f)
+        go : (b c : Bool) → owns M p (x .records) n ≡ b → eqb n (rootOf M p) ≡ c → Emptied p n (suc n) x (cond b (cond c z (onRecords (withRecord n 0 (guest 0)) z)) x)
+        go false c e f = not-mine (eqb-false (own M x n) p e)
+        go true true e f = the-root (eqb-true (own M x n) p e) (eqb-true n (rootOf M p) f)
+        go true false e f = below-root (eqb-true (own M x n) p e) (eqb-false n (rootOf M p) f)
 
   emptied-turns : (p : ℕ) (s : Shadow) → Exact M s → (n : ℕ) → n ≤ tableCount M → Emptied p 0 n s (each n (emptyOwn M p) s)
   unfolding each
   emptied-turns p s exact zero h = record {
     exact = exact;
-    own = λ v l u. absurd (omega arith);
+    zeros = λ v l u. absurd (omega arith);
     free = λ v l u. absurd (omega arith);
     root = (refl, refl);
-    others = λ v no-one. record { entries = λ k hk. refl; level = refl; frame = refl };
+    others = λ v no-one. record { entries = λ k hk. refl; level = refl; frame = refl; owner = refl };
   }
   emptied-turns p s exact (suc n) h =
       let a = emptied-turns p s exact n (omega arith) in

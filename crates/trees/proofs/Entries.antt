@@ -13,7 +13,7 @@ use Rattle.paging.proofs.Layouts.{tables64-sound, length-put, get-put, get-put-
 use Rattle.paging.proofs.Narrow.{tables32, tables32-sound}
 use Rattle.paging.proofs.Tests.{both}
 use Rattle.tables.specs.declared.Sizes.{Sizes}
-use Rattle.tables.specs.State.{Machine, Shadow, onPool, onRecords, machine64, withRecord, tableCount, entryCount, withEntry, named, Sized}
+use Rattle.tables.specs.State.{Machine, Shadow, onPool, onRecords, machine64, recordSize, withRecord, tableCount, entryCount, withEntry, named, Sized}
 use Rattle.tables.proofs.Names.{named-absent, named-on}
 use Rattle.lawful.specs.Rules.{isMadeWith, isBranch}
 use Rattle.trees.proofs.Trees.{Laid, Able, able, Exact, ent, lev, shd, Names}
@@ -75,27 +75,27 @@ module _ (M : Machine) (ok : Able M) (s : Shadow) (exact : Exact M s) where
 
     pub level-here : lev M s″ t ≡ level
     level-here =
-        getD-set-other (set (s .records) (2 * t) level) (2 * t + 1) (2 * t) (g .0) 0 (λ q. omega arith)
-        ∙ getD-set-same (s .records) (2 * t) level 0 (omega (arith, exact .pairs))
+        getD-set-other (set (s .records) (recordSize * t) level) (recordSize * t + 1) (recordSize * t) (g .0) 0 (λ q. omega arith)
+        ∙ getD-set-same (s .records) (recordSize * t) level 0 (omega (arith, exact .pairs))
 
     pub frame-here : shd M s″ t ≡ g .0
     frame-here =
-        getD-set-same (set (s .records) (2 * t) level) (2 * t + 1) (g .0) 0 (omega (arith, exact .pairs, length-set (s .records) (2 * t) level))
+        getD-set-same (set (s .records) (recordSize * t) level) (recordSize * t + 1) (g .0) 0 (omega (arith, exact .pairs, length-set (s .records) (recordSize * t) level))
 
     pub level-other : (v : ℕ) → (v ≡ t → ⊥) → lev M s″ v ≡ lev M s v
     level-other v ne =
-        getD-set-other (set (s .records) (2 * t) level) (2 * t + 1) (2 * v) (g .0) 0 (λ q. omega arith)
-        ∙ getD-set-other (s .records) (2 * t) (2 * v) level 0 (λ q. ne (omega arith))
+        getD-set-other (set (s .records) (recordSize * t) level) (recordSize * t + 1) (recordSize * v) (g .0) 0 (λ q. omega arith)
+        ∙ getD-set-other (s .records) (recordSize * t) (recordSize * v) level 0 (λ q. ne (omega arith))
 
     pub frame-other : (v : ℕ) → (v ≡ t → ⊥) → shd M s″ v ≡ shd M s v
     frame-other v ne =
-        getD-set-other (set (s .records) (2 * t) level) (2 * t + 1) (2 * v + 1) (g .0) 0 (λ q. ne (omega arith))
-        ∙ getD-set-other (s .records) (2 * t) (2 * v + 1) level 0 (λ q. omega arith)
+        getD-set-other (set (s .records) (recordSize * t) level) (recordSize * t + 1) (recordSize * v + 1) (g .0) 0 (λ q. ne (omega arith))
+        ∙ getD-set-other (s .records) (recordSize * t) (recordSize * v + 1) level 0 (λ q. omega arith)
 
     pub record-exact : Exact M s″
     record-exact = record {
       words = exact .words;
-      pairs = length-set (set (s .records) (2 * t) level) (2 * t + 1) (g .0) ∙ length-set (s .records) (2 * t) level ∙ exact .pairs;
+      pairs = length-set (set (s .records) (recordSize * t) level) (recordSize * t + 1) (g .0) ∙ length-set (s .records) (recordSize * t) level ∙ exact .pairs;
     }
 
 -- ---- names

@@ -14,11 +14,11 @@ use Rattle.paging.specs.declared.Origin.the-variants.{Of}
 use Rattle.paging.specs.Frame.{guest, host, originFrom}
 use Rattle.paging.specs.Layout.{bit, frameOf, isPresent}
 use Rattle.paging.proofs.Tests.{both}
-use Rattle.tables.specs.State.{Machine, Shadow, tableCount, ownerOf, named}
+use Rattle.tables.specs.State.{Machine, Shadow, tableCount, named}
 use Rattle.tables.proofs.Names.{named-absent, named-low, named-past}
 use Rattle.lawful.specs.Rules.{isOf, isMapped, isMadeWith, isLeaf}
 use Rattle.trees.proofs.Tests.{zero-one-more}
-use Rattle.trees.proofs.Trees.{Outside, ent, lev, Names, Branch, Trees}
+use Rattle.trees.proofs.Trees.{Outside, ent, lev, own, Names, Branch, Trees}
 use Rattle.trees.proofs.Entries.{zero-names-none}
 
 -- a frame that is mapped stands in the map
@@ -90,5 +90,5 @@ module _ (M : Machine) (map : List ℕ) (outside : Outside M map) where
     pub live : {t i u : ℕ} → Names M s t i u → 0 < lev M s u
     live m = omega (arith, falls m, names-branch m .0)
 
-    pub same-owner : {t i u : ℕ} → Names M s t i u → ownerOf M u ≡ ownerOf M t
-    same-owner m = ap (ownerOf M) (sym (m .names)) ∙ names-branch m .1 .owner
+    pub same-owner : {t i u : ℕ} → Names M s t i u → own M s u ≡ own M s t
+    same-owner m = ap (own M s) (sym (m .names)) ∙ names-branch m .1 .owner

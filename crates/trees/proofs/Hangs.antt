@@ -10,10 +10,11 @@ use lib.Dec.{eqb}
 use borrow.Author.Tests.{eq-eqb, ne-eqb, lt-ltb}
 use Rattle.paging.specs.declared.Guest.{Guest}
 use Rattle.paging.specs.Layout.{bit, compose}
-use Rattle.tables.specs.State.{Machine, Shadow, onPool, tableCount, ownerOf, entryCount, withEntry, named}
+use Rattle.tables.specs.State.{Machine, Shadow, onPool, tableCount, entryCount, withEntry, named}
 use Rattle.tables.specs.Steps.{hang}
+use Rattle.tables.proofs.Owners.{owner-kept}
 use Rattle.lawful.specs.Rules.{isMadeWith, isLeaf, isBranch, isRoot}
-use Rattle.trees.proofs.Trees.{Able, Outside, Exact, ent, lev, shd, Names, Branch, Trees, Same}
+use Rattle.trees.proofs.Trees.{Able, Outside, Exact, ent, lev, shd, own, Names, Branch, Trees, Same}
 use Rattle.trees.proofs.Entries.{entry-here, entry-other, entry-exact, level-here, frame-here, level-other, frame-other, record-exact, zero-names-none, made-frame, made-names, made-small, made-rights, names-by}
 use Rattle.trees.proofs.Falls.{live}
 
@@ -27,7 +28,7 @@ by-table {A} v u f h = go (ℕ-discrete v u)
 
 module _ (M : Machine) (ok : Able M) (map : List ℕ) (outside : Outside M map) (s : Shadow) (trees : Trees M map s)
     (t i u l : ℕ) (g : Guest) (r : ℕ) (table : t < tableCount M) (index : i < entryCount M) (level : lev M s t ≡ suc l) (low : 0 < l)
-    (absent : ent M s t i ≡ 0) (new : u < tableCount M) (free : lev M s u ≡ 0) (owner : ownerOf M u ≡ ownerOf M t)
+    (absent : ent M s t i ≡ 0) (new : u < tableCount M) (free : lev M s u ≡ 0) (owner : own M (hang M t i u l g r s) u ≡ own M s t)
     (below : g .0 < M .frames) (small : r < 8) (grants : M .tables .nxAlone ≡ 0 → bit r 2 ≡ 1) where
   abbrev made : ℕ
   made = compose (M .tables) r 0 (M .base + u)
@@ -61,11 +62,15 @@ module _ (M : Machine) (ok : Able M) (map : List ℕ) (outside : Outside M map) 
     frame-other M ok (onPool (withEntry M t i made) s) laid u l g new v ne,
   )
 
+  owner-same : (v : ℕ) → own M s′ v ≡ own M s v
+  owner-same = owner-kept M (s .records) (s′ .records)
+
   pub hang-same : (v : ℕ) → (v ≡ t → ⊥) → (v ≡ u → ⊥) → Same M s s′ v
   hang-same v nt nu = record {
     entries = λ k h. hang-beside v k h (λ p q. nt p);
     level = hang-others v nu .0;
     frame = hang-others v nu .1;
+    owner = owner-same v;
   }
 
   -- ---- who is named
@@ -147,12 +152,16 @@ module _ (M : Machine) (ok : Able M) (map : List ℕ) (outside : Outside M map) 
   branch-still v e ne h (inl z) = inl z
   branch-still v e ne h (inr b) =
       let other : named M e ≡ u → ⊥ = λ q. omega (arith, b .lower, ap (lev M s) q) in
-      inr record { made = b .made; owner = b .owner; lower = omega (arith, b .lower, hang-others (named M e) other .0, hang-others v ne .0) }
+      inr record {
+        made = b .made;
+        owner = owner-same (named M e) ∙ b .owner ∙ sym (owner-same v);
+        lower = omega (arith, b .lower, hang-others (named M e) other .0, hang-others v ne .0);
+      }
 
   branch-new : Branch M s′ t made
   branch-new = record {
     made = branch-made;
-    owner = ap (ownerOf M) hung-names ∙ owner;
+    owner = ap (own M s′) hung-names ∙ owner ∙ sym (owner-same t);
     lower = omega (arith, ap (lev M s′) hung-names, hang-level, hang-others t (λ q. apart (sym q)) .0);
   }
 

@@ -36,7 +36,7 @@ module _ (M : Machine) (ok : Able M) (map : List ℕ) (outside : Outside M map) 
   leaf-beside v k h ne = entry-other M ok s (trees .exact) t i e table index small v k h (λ p q. ne (sym p) (sym q))
 
   pub leaf-same : (v : ℕ) → (v ≡ t → ⊥) → Same M s s′ v
-  leaf-same v ne = record { entries = λ k h. leaf-beside v k h (λ p q. ne p); level = refl; frame = refl }
+  leaf-same v ne = record { entries = λ k h. leaf-beside v k h (λ p q. ne p); level = refl; frame = refl; owner = refl }
 
   -- the entry written names none
   names-none : named M e < tableCount M → ⊥

@@ -11,8 +11,8 @@ use borrow.Author.Tests.{eqb-true}
 use Rattle.paging.specs.Layout.{bit, index, isPresent}
 use Rattle.paging.proofs.Indices.{index-small}
 use Rattle.tables.specs.declared.Path.{Path}
-use Rattle.tables.specs.State.{Machine, Shadow, tableCount, ownerOf, entryCount, named, top, nextEntry, down, descend, pathTo}
-use Rattle.trees.proofs.Trees.{Able, Outside, Exact, ent, lev, Names, Trees, Less, Same}
+use Rattle.tables.specs.State.{Machine, Shadow, tableCount, entryCount, named, top, nextEntry, down, descend, pathTo}
+use Rattle.trees.proofs.Trees.{Able, Outside, Exact, ent, lev, own, Names, Trees, Less, Same}
 use Rattle.trees.proofs.Entries.{zero-names}
 use Rattle.trees.proofs.Falls.{falls, same-owner}
 use Rattle.trees.proofs.Roots.{root-owner, root-level}
@@ -91,9 +91,9 @@ module _ (M : Machine) (ok : Able M) (map : List ℕ) (outside : Outside M map) 
 
     -- WHERE A PATH STANDS ON A TABLE, THAT IS OF ITS LEVEL AND OF ITS ROOT'S SHARE
     pub stands : (n : ℕ) → n < M .tables .levels → at n .table < tableCount M
-        → (lev M s (at n .table) ≡ M .tables .levels - n) × (ownerOf M (at n .table) ≡ p)
+        → (lev M s (at n .table) ≡ M .tables .levels - n) × (own M s (at n .table) ≡ p)
     unfolding descend
-    stands zero hn h = (omega (arith, root-level M ok map s trees p hp), root-owner M ok p)
+    stands zero hn h = (omega (arith, root-level M ok map s trees p hp), root-owner M ok s p)
     stands (suc n) hn h =
         let m = step-names n h in
         let r = stands n (omega arith) (m .table) in
@@ -200,7 +200,7 @@ module _ (M : Machine) (ok : Able M) (map : List ℕ) (outside : Outside M map) 
 
   -- a path reads the same if the tables of its share and level are the same; past the last table all read 0
   reads-same : (n : ℕ) → n < M .tables .levels
-      → ((v : ℕ) → v < tableCount M → lev M s v ≡ M .tables .levels - n → ownerOf M v ≡ p → (i : ℕ) → i < entryCount M → ent M s′ v i ≡ ent M s v i)
+      → ((v : ℕ) → v < tableCount M → lev M s v ≡ M .tables .levels - n → own M s v ≡ p → (i : ℕ) → i < entryCount M → ent M s′ v i ≡ ent M s v i)
       → nextEntry M (s′ .pool) page (on n) ≡ nextEntry M (s .pool) page (on n)
   reads-same n hn same = go (decLt (on n .table) (tableCount M))
     where
@@ -212,7 +212,7 @@ module _ (M : Machine) (ok : Able M) (map : List ℕ) (outside : Outside M map) 
           lost-entry M ok s′ exact′ page (on n) (omega arith) ∙ sym (lost-entry M ok s (trees .exact) page (on n) (omega arith))
 
   -- WHERE A SHARE STAYS, ITS PATHS STAY
-  module _ (same : (v : ℕ) → v < tableCount M → ownerOf M v ≡ p → Same M s s′ v) where
+  module _ (same : (v : ℕ) → v < tableCount M → own M s v ≡ p → Same M s s′ v) where
     same-next : (n : ℕ) → n < M .tables .levels → nextEntry M (s′ .pool) page (on n) ≡ nextEntry M (s .pool) page (on n)
     same-next n hn = reads-same n hn (λ v h q o. same v h o .entries)
 

@@ -14,9 +14,9 @@ use lib.Pow.{pow-pos}
 use borrow.Author.Tests.{ltb-true, ltb-false}
 use Rattle.paging.specs.Frame.{guest}
 use Rattle.paging.specs.Numbers.{each}
-use Rattle.tables.specs.State.{Machine, Shadow, onPool, onRecords, withRecord, tableCount, ownerOf, entryCount, withEntry, named}
+use Rattle.tables.specs.State.{Machine, Shadow, onPool, onRecords, withRecord, tableCount, entryCount, withEntry, named}
 use Rattle.tables.specs.Steps.{freeTable, cut}
-use Rattle.trees.proofs.Trees.{Able, Outside, Exact, ent, lev, shd, Names, Trees}
+use Rattle.trees.proofs.Trees.{Able, Outside, Exact, ent, lev, shd, own, Names, Trees}
 use Rattle.trees.proofs.Entries.{entry-here, entry-other, entry-exact, level-here, frame-here, level-other, frame-other, record-exact, zero-names-none, names-by}
 use Rattle.trees.proofs.Falls.{falls, live, same-owner}
 
@@ -32,7 +32,7 @@ module _ (M : Machine) (s₀ : Shadow) (t₀ i₀ : ℕ) where
   -- v may go with it
   pub record Below (v : ℕ) : Type 0 where
     pub lower : lev M s₀ v < lev M s₀ t₀
-    pub owner : ownerOf M v ≡ ownerOf M t₀
+    pub owner : own M s₀ v ≡ own M s₀ t₀
 
   -- and entry k of v may become 0
   abbrev pub Cuttable : ℕ → ℕ → Type 0
@@ -240,7 +240,7 @@ module _ (M : Machine) (s₀ : Shadow) (t₀ i₀ : ℕ) where
         let owner = same-owner M map outside s₀ trees m in
         ⊎-elim
         (λ (b : Below t). record { lower = omega (arith, b .lower); owner = owner ∙ b .owner })
-        (λ (q : (t ≡ t₀) × (i ≡ i₀)). record { lower = omega (arith, ap (lev M s₀) (q .0)); owner = owner ∙ ap (ownerOf M) (q .0) })
+        (λ (q : (t ≡ t₀) × (i ≡ i₀)). record { lower = omega (arith, ap (lev M s₀) (q .0)); owner = owner ∙ ap (own M s₀) (q .0) })
         c
 
     module _ (l : ℕ) (ih : Frees l) (t i : ℕ) (ht : t < tableCount M) (hi : i < entryCount M) (level : lev M s₀ t ≡ suc l) (cuttable : Cuttable t i) where

@@ -16,9 +16,9 @@ use Rattle.paging.specs.Walk.{meet}
 use Rattle.paging.proofs.Tests.{both}
 use Rattle.paging.proofs.Indices.{index-small}
 use Rattle.tables.specs.declared.Path.{Path}
-use Rattle.tables.specs.State.{Machine, Shadow, tableCount, ownerOf, rootOf, entryCount, named, top, nextEntry, down, descend}
+use Rattle.tables.specs.State.{Machine, Shadow, tableCount, rootOf, entryCount, named, top, nextEntry, down, descend}
 use Rattle.tables.specs.Steps.{Settled, settledAt, spot, cut, guestEntry, agrees, settle}
-use Rattle.trees.proofs.Trees.{Able, Outside, ent, lev, shd, Trees, Less, Same}
+use Rattle.trees.proofs.Trees.{Able, Outside, ent, lev, shd, own, Another, Trees, Less, Same, same-trans, another-still}
 use Rattle.trees.proofs.Roots.{root-table, root-level}
 use Rattle.trees.proofs.Cuts.{cut-trees, cut-less, cut-gone, cut-record, cut-upper, cut-level, cut-others}
 use Rattle.trees.proofs.Paths.{path-on, stands, upper-path}
@@ -41,19 +41,15 @@ module _ (M : Machine) (words : List ℕ) (page : ℕ) (last f : Guest) (x : ℕ
 module _ (M : Machine) (p : ℕ) where
   -- what stays while the tables of p are worked on
   pub record Stays (s s′ : Shadow) : Type 0 where
-    pub others : (v : ℕ) → v < tableCount M → (ownerOf M v ≡ p → ⊥) → Same M s s′ v
+    pub others : (v : ℕ) → v < tableCount M → Another M s p v → Same M s s′ v
     pub root : shd M s′ (rootOf M p) ≡ shd M s (rootOf M p)
 
   pub stays-refl : (s : Shadow) → Stays s s
-  stays-refl s = record { others = λ v h ne. record { entries = λ i k. refl; level = refl; frame = refl }; root = refl }
+  stays-refl s = record { others = λ v h a. record { entries = λ i k. refl; level = refl; frame = refl; owner = refl }; root = refl }
 
   pub stays-trans : {a b c : Shadow} → Stays a b → Stays b c → Stays a c
   stays-trans ab bc = record {
-    others = λ v hv ne. record {
-      entries = λ i hi. bc .others v hv ne .entries i hi ∙ ab .others v hv ne .entries i hi;
-      level = bc .others v hv ne .level ∙ ab .others v hv ne .level;
-      frame = bc .others v hv ne .frame ∙ ab .others v hv ne .frame;
-    };
+    others = λ v hv o. let first = ab .others v hv o in same-trans first (bc .others v hv (another-still first o));
     root = bc .root ∙ ab .root;
   }
 
@@ -82,11 +78,11 @@ module _ (M : Machine) (ok : Able M) (map : List ℕ) (outside : Outside M map) 
 
   module _ (s : Shadow) (trees : Trees M map s) where
     -- its level and owner
-    pub leveled : {m t : ℕ} {g : Guest} → Stands s m t g → (lev M s t ≡ suc m) × (ownerOf M t ≡ p)
+    pub leveled : {m t : ℕ} {g : Guest} → Stands s m t g → (lev M s t ≡ suc m) × (own M s t ≡ p)
     leveled {m} {t} h =
         let q : descend M (s .pool) page (L - suc m) (top M p) .table ≡ t = ap (λ (w : Path). w .table) (h .path) in
         let r = stands M ok map outside s trees p hp page (L - suc m) (omega (arith, h .below)) (rw q (h .table)) in
-        (ap (lev M s) (sym q) ∙ r .0 ∙ omega (arith, h .below), ap (ownerOf M) (sym q) ∙ r .1)
+        (ap (lev M s) (sym q) ∙ r .0 ∙ omega (arith, h .below), ap (own M s) (sym q) ∙ r .1)
 
     -- the root's record stays where an entry of one of p's tables is cut
     cut-root : (t i l : ℕ) (ht : t < tableCount M) (hi : i < entryCount M) (level : lev M s t ≡ suc l) (pos : 0 < l) → shd M (cut M l t i s) (rootOf M p) ≡ shd M s (rootOf M p)
@@ -154,7 +150,7 @@ module _ (M : Machine) (ok : Able M) (map : List ℕ) (outside : Outside M map) 
       trees = kept;
       less = cut-less M ok map outside s trees t i (suc m) (h .table) hi level (omega arith);
       stays = record {
-        others = λ v hv ne. cut-others M ok map outside s trees t i (suc m) (h .table) hi level (omega arith) v hv (λ q. ne (q ∙ leveled s trees h .1));
+        others = λ v hv o. cut-others M ok map outside s trees t i (suc m) (h .table) hi level (omega arith) v hv (λ q. o .other (q ∙ leveled s trees h .1));
         root = cut-root s trees t i (suc m) (h .table) hi level (omega arith);
       };
       stands = carried trees kept h (λ v hv above k hk. upper v hv (omega (arith, level)) .entries k hk);

@@ -8,10 +8,11 @@ use native.Mathlib.Omega.{arith}
 use lib.Dec.{eqb}
 use borrow.Author.Tests.{ne-eqb}
 use Rattle.paging.specs.Frame.{guest}
-use Rattle.tables.specs.State.{Machine, Shadow, onRecords, withRecord, tableCount, ownerOf, rootOf, entryCount, named}
+use Rattle.tables.specs.State.{Machine, Shadow, onRecords, withRecord, tableCount, rootOf, entryCount, named}
 use Rattle.tables.specs.Steps.{emptyShare}
+use Rattle.tables.proofs.Owners.{owner-kept}
 use Rattle.lawful.specs.Rules.{isLeaf, isRoot}
-use Rattle.trees.proofs.Trees.{Able, Outside, ent, lev, shd, Names, Branch, Trees, Less, Same}
+use Rattle.trees.proofs.Trees.{Able, Outside, ent, lev, shd, own, Names, Branch, Trees, Less, Same}
 use Rattle.trees.proofs.Entries.{level-here, frame-here, level-other, frame-other, record-exact, zero-names-none, names-by}
 use Rattle.trees.proofs.Falls.{same-owner}
 use Rattle.trees.proofs.Roots.{root-table, root-owner, root-not, root-level}
@@ -27,45 +28,45 @@ module _ (M : Machine) (ok : Able M) (map : List ℕ) (outside : Outside M map) 
 
   -- ---- what it does
 
-  pub share-others : (v : ℕ) → v < tableCount M → (ownerOf M v ≡ p → ⊥) → Same M s s′ v
+  pub share-others : (v : ℕ) → v < tableCount M → (own M s v ≡ p → ⊥) → Same M s s′ v
   share-others v hv ne = done .others v (λ l u o. ne o)
 
-  pub share-own : (v : ℕ) → v < tableCount M → ownerOf M v ≡ p → (k : ℕ) → k < entryCount M → ent M s′ v k ≡ 0
-  share-own v hv o k hk = done .own v (omega arith) hv o k hk
+  pub share-own : (v : ℕ) → v < tableCount M → own M s v ≡ p → (k : ℕ) → k < entryCount M → ent M s′ v k ≡ 0
+  share-own v hv o k hk = done .zeros v (omega arith) hv o k hk
 
-  pub share-free : (v : ℕ) → v < tableCount M → ownerOf M v ≡ p → (v ≡ rootOf M p → ⊥) → (lev M s′ v ≡ 0) × (shd M s′ v ≡ 0)
+  pub share-free : (v : ℕ) → v < tableCount M → own M s v ≡ p → (v ≡ rootOf M p → ⊥) → (lev M s′ v ≡ 0) × (shd M s′ v ≡ 0)
   share-free v hv o ne = done .free v (omega arith) hv o ne
 
   pub share-root : (lev M s′ (rootOf M p) ≡ lev M s (rootOf M p)) × (shd M s′ (rootOf M p) ≡ shd M s (rootOf M p))
   share-root = done .root
 
   pub share-less : Less M s s′
-  share-less = record { entries = λ v hv k hk. by-table (ownerOf M v) p (λ o. inr (share-own v hv o k hk)) (λ ne. inl (share-others v hv ne .entries k hk)) }
+  share-less = record { entries = λ v hv k hk. by-table (own M s v) p (λ o. inr (share-own v hv o k hk)) (λ ne. inl (share-others v hv ne .entries k hk)) }
 
   -- ---- who is named
 
   -- a table is the root, another of p's, or of another share
-  by-share : {A : Type 0} (v : ℕ) → (v ≡ rootOf M p → A) → (ownerOf M v ≡ p → (v ≡ rootOf M p → ⊥) → A) → ((ownerOf M v ≡ p → ⊥) → A) → A
-  by-share v f g k = by-table v (rootOf M p) f (λ ne. by-table (ownerOf M v) p (λ o. g o ne) k)
+  by-share : {A : Type 0} (v : ℕ) → (v ≡ rootOf M p → A) → (own M s v ≡ p → (v ≡ rootOf M p → ⊥) → A) → ((own M s v ≡ p → ⊥) → A) → A
+  by-share v f g k = by-table v (rootOf M p) f (λ ne. by-table (own M s v) p (λ o. g o ne) k)
 
   old : {v k x : ℕ} → Names M s′ v k x → Names M s v k x
-  old {v} {k} {x} m = by-table (ownerOf M v) p (λ o. absurd (never o)) kept
+  old {v} {k} {x} m = by-table (own M s v) p (λ o. absurd (never o)) kept
     where
-      never : ownerOf M v ≡ p → ⊥
+      never : own M s v ≡ p → ⊥
       never o = zero-names-none M (ent M s′ v k) (share-own v (m .table) o k (m .index)) (rw (m .names) (m .is))
 
-      kept : (ownerOf M v ≡ p → ⊥) → Names M s v k x
+      kept : (own M s v ≡ p → ⊥) → Names M s v k x
       kept ne = names-by (sym (share-others v (m .table) ne .entries k (m .index))) m
 
-  still : {v k x : ℕ} → (ownerOf M x ≡ p → ⊥) → Names M s v k x → Names M s′ v k x
+  still : {v k x : ℕ} → (own M s x ≡ p → ⊥) → Names M s v k x → Names M s′ v k x
   still {v} {k} {x} ne m =
       let same = share-others v (m .table) (λ o. ne (same-owner M map outside s trees m ∙ o)) in
       names-by (same .entries k (m .index)) m
 
   -- ---- table by table
 
-  owned : (v : ℕ) → v ≡ rootOf M p → ownerOf M v ≡ p
-  owned v q = ap (ownerOf M) q ∙ root-owner M ok p
+  owned : (v : ℕ) → v ≡ rootOf M p → own M s v ≡ p
+  owned v q = ap (own M s) q ∙ root-owner M ok s p
 
   level-root : (v : ℕ) → v ≡ rootOf M p → lev M s′ v ≡ lev M s v
   level-root v q = ap (lev M s′) q ∙ share-root .0 ∙ ap (lev M s) (sym q)
@@ -77,7 +78,7 @@ module _ (M : Machine) (ok : Able M) (map : List ℕ) (outside : Outside M map) 
   roots′ v hv =
       by-share v
       (λ q. trees .roots v hv ∙ ap (λ (n : ℕ). eqb n (M .tables .levels)) (sym (level-root v q)))
-      (λ o ne. root-not M ok p v o ne ∙ sym (ne-eqb (lev M s′ v) _ (λ e. omega (arith, share-free v hv o ne .0, ok .upper))))
+      (λ o ne. root-not M ok s p v o ne ∙ sym (ne-eqb (lev M s′ v) _ (λ e. omega (arith, share-free v hv o ne .0, ok .upper))))
       (λ ne. trees .roots v hv ∙ ap (λ (n : ℕ). eqb n (M .tables .levels)) (sym (share-others v hv ne .level)))
 
   free′ : (v : ℕ) → v < tableCount M → lev M s′ v ≡ 0 → (shd M s′ v ≡ 0) × ((k : ℕ) → k < entryCount M → ent M s′ v k ≡ 0)
@@ -92,21 +93,22 @@ module _ (M : Machine) (ok : Able M) (map : List ℕ) (outside : Outside M map) 
 
   leaf′ : (v : ℕ) → v < tableCount M → lev M s′ v ≡ 1 → (k : ℕ) → k < entryCount M → (ent M s′ v k ≡ 0) ⊎ (isLeaf (M .tables) map (ent M s′ v k) ≡ true)
   leaf′ v hv z k hk =
-      by-table (ownerOf M v) p
+      by-table (own M s v) p
       (λ o. inl (share-own v hv o k hk))
       (λ ne.
       let same = share-others v hv ne in
       subst (λ (e : ℕ). (e ≡ 0) ⊎ (isLeaf (M .tables) map e ≡ true)) (sym (same .entries k hk)) (trees .leaf v hv (sym (same .level) ∙ z) k hk))
 
-  branch-still : (v e : ℕ) → v < tableCount M → (ownerOf M v ≡ p → ⊥) → (e ≡ 0) ⊎ Branch M s v e → (e ≡ 0) ⊎ Branch M s′ v e
+  branch-still : (v e : ℕ) → v < tableCount M → (own M s v ≡ p → ⊥) → (e ≡ 0) ⊎ Branch M s v e → (e ≡ 0) ⊎ Branch M s′ v e
   branch-still v e hv ne (inl z) = inl z
   branch-still v e hv ne (inr b) =
-      let below = done .others (named M e) (λ l u o. ne (sym (b .owner) ∙ o)) .level in
-      inr record { made = b .made; owner = b .owner; lower = omega (arith, b .lower, below, share-others v hv ne .level) }
+      let below = done .others (named M e) (λ l u o. ne (sym (b .owner) ∙ o)) in
+      let same = share-others v hv ne in
+      inr record { made = b .made; owner = below .owner ∙ b .owner ∙ sym (same .owner); lower = omega (arith, b .lower, below .level, same .level) }
 
   branch′ : (v : ℕ) → v < tableCount M → 1 < lev M s′ v → (k : ℕ) → k < entryCount M → (ent M s′ v k ≡ 0) ⊎ Branch M s′ v (ent M s′ v k)
   branch′ v hv high k hk =
-      by-table (ownerOf M v) p
+      by-table (own M s v) p
       (λ o. inl (share-own v hv o k hk))
       (λ ne.
       let same = share-others v hv ne in
@@ -164,9 +166,12 @@ module _ (M : Machine) (ok : Able M) (map : List ℕ) (s : Shadow) (trees : Tree
       (λ q. ap (lev M s″) q ∙ same ∙ ap (lev M s) (sym q))
       (level-other M ok s (trees .exact) (rootOf M p) (M .tables .levels) (guest f) (root-table M ok p h) v)
 
+  pub root-owners : (v : ℕ) → own M s″ v ≡ own M s v
+  root-owners = owner-kept M (s .records) (s″ .records)
+
   branch-as : {v e : ℕ} → (e ≡ 0) ⊎ Branch M s v e → (e ≡ 0) ⊎ Branch M s″ v e
   branch-as (inl z) = inl z
-  branch-as {v} {e} (inr b) = inr record { made = b .made; owner = b .owner; lower = omega (arith, b .lower, root-levels v, root-levels (named M e)) }
+  branch-as {v} {e} (inr b) = inr record { made = b .made; owner = root-owners (named M e) ∙ b .owner ∙ sym (root-owners v); lower = omega (arith, b .lower, root-levels v, root-levels (named M e)) }
 
   -- A ROOT MAY SHADOW ANY FRAME
   pub root-trees : Trees M map s″

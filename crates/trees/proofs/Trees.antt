@@ -1,5 +1,5 @@
 -- The shadow tables as trees: what the state rules ask of them, without counting.
-use mathlib.Core.Path.{_≡_}
+use mathlib.Core.Path.{_≡_, sym, _∙_}
 use mathlib.Core.Bool.{true}
 use mathlib.Core.List.{List}
 use mathlib.Core.Logic.{_⊎_}
@@ -10,7 +10,7 @@ use lib.ListN.{length, getD}
 use Rattle.paging.specs.Layout.{Layout, frameWords, bit, compose, rightsOf}
 use Rattle.paging.specs.Sound.{Sound}
 use Rattle.paging.proofs.Layouts.{get-past}
-use Rattle.tables.specs.State.{Machine, Shadow, levelOf, shadows, tableCount, ownerOf, entryCount, entryOf, named}
+use Rattle.tables.specs.State.{Machine, Shadow, recordSize, levelOf, shadows, tableCount, ownerOf, entryCount, entryOf, named}
 use Rattle.lawful.specs.Rules.{isLeaf, isBranch, isRoot}
 
 -- what is asked of a layout, for a machine's tables
@@ -51,7 +51,7 @@ Outside M map = (i : ℕ) → i < length map → (M .base ≤ getD map i 0) → 
 -- the exact lengths
 pub record Exact (M : Machine) (s : Shadow) : Type 0 where
   pub words : length (s .pool) ≡ frameWords * tableCount M
-  pub pairs : length (s .records) ≡ 2 * tableCount M
+  pub pairs : length (s .records) ≡ recordSize * tableCount M
 
 module _ (M : Machine) where
   -- entry i of t
@@ -64,6 +64,15 @@ module _ (M : Machine) where
   abbrev pub shd : Shadow → ℕ → ℕ
   shd s t = shadows (s .records) t .0
 
+  -- who owns t
+  abbrev pub own : Shadow → ℕ → ℕ
+  own s t = ownerOf M (s .records) t
+
+  -- t is another processor's than p
+  pub record Another (s : Shadow) (p t : ℕ) : Type 0 where
+    pub owned : own s t < M .processors
+    pub other : own s t ≡ p → ⊥
+
   -- entry i of t names u
   pub record Names (s : Shadow) (t i u : ℕ) : Type 0 where
     pub table : t < tableCount M
@@ -74,7 +83,7 @@ module _ (M : Machine) where
   -- a present entry above level 1: "names a table of the same share, one level lower"
   pub record Branch (s : Shadow) (t e : ℕ) : Type 0 where
     pub made : isBranch M e ≡ true
-    pub owner : ownerOf M (named M e) ≡ ownerOf M t
+    pub owner : own s (named M e) ≡ own s t
     pub lower : lev s (named M e) + 1 ≡ lev s t
 
   -- THE TABLES ARE TREES
@@ -98,3 +107,16 @@ module _ (M : Machine) where
     pub entries : (i : ℕ) → i < entryCount M → ent s′ t i ≡ ent s t i
     pub level : lev s′ t ≡ lev s t
     pub frame : shd s′ t ≡ shd s t
+    pub owner : own s′ t ≡ own s t
+
+pub same-trans : {M : Machine} {s x y : Shadow} {v : ℕ} → Same M s x v → Same M x y v → Same M s y v
+same-trans a b = record {
+  entries = λ k h. b .entries k h ∙ a .entries k h;
+  level = b .level ∙ a .level;
+  frame = b .frame ∙ a .frame;
+  owner = b .owner ∙ a .owner;
+}
+
+-- who owns another's table owns it where the table stays
+pub another-still : {M : Machine} {s x : Shadow} {p v : ℕ} → Same M s x v → Another M s p v → Another M x p v
+another-still same a = record { owned = rw (same .owner) (a .owned); other = λ q. a .other (sym (same .owner) ∙ q) }

@@ -13,9 +13,9 @@ use Rattle.paging.specs.declared.Guest.{Guest}
 use Rattle.paging.specs.Layout.{Layout, index, compose, isPresent}
 use Rattle.paging.proofs.Indices.{index-small}
 use Rattle.tables.specs.declared.Path.{Path}
-use Rattle.tables.specs.State.{Machine, Shadow, onPool, tableCount, ownerOf, entryCount, withEntry, named, top, nextEntry, descend, pathTo}
+use Rattle.tables.specs.State.{Machine, Shadow, onPool, tableCount, entryCount, withEntry, named, top, nextEntry, descend, pathTo}
 use Rattle.tables.specs.Steps.{hang}
-use Rattle.trees.proofs.Trees.{Able, Outside, Exact, ent, lev, Names, Trees}
+use Rattle.trees.proofs.Trees.{Able, Outside, Exact, ent, lev, own, Names, Trees}
 use Rattle.trees.proofs.Entries.{entry-here, entry-other, entry-exact, made-names, made-small}
 use Rattle.trees.proofs.Paths.{path-level, step-names, stands, FullSame, same-or, full-or, upper-path}
 
@@ -206,6 +206,6 @@ module _ (M : Machine) (ok : Able M) (map : List ℕ) (outside : Outside M map) 
       apart q r =
           let a = stands M ok map outside s trees p hp v (M .tables .levels - 1) low (omega (arith, reached)) in
           let b = stands M ok map outside s trees p′ hp′ v′ (M .tables .levels - 1) low (omega (arith, q)) in
-          let owner : p′ ≡ p = sym (b .1) ∙ ap (ownerOf M) (sym (reached ∙ q)) ∙ a .1 in
+          let owner : p′ ≡ p = sym (b .1) ∙ ap (own M s) (sym (reached ∙ q)) ∙ a .1 in
           ne owner
           (sym (same-page v′ hv hv′ (q ∙ ap (λ (o : ℕ). pathTo M (s .pool) o v′ 1 .table) owner) (r ∙ ap (index (M .tables) v′) (last-level p′ v′))))

@@ -43,7 +43,7 @@ returns-3 c =
     simp (
       lt-leb (levelOf (a .records .now) (a .t)) 1 h,
       ne-eqb (a .e) 0 (c .before .before .before .before .if2 .left),
-      ne-eqb (ownerOf M (named M (a .e))) (ownerOf M (a .t)) (λ q. c .if3 .taken (c .before .before .owner-of .ensures ∙ ap (ownerOf M) (c .before .before .before .named-by .ensures) ∙ q ∙ sym (c .before .owner-of2 .ensures))),
+      ne-eqb (ownerOf M (a .records .now) (named M (a .e))) (ownerOf M (a .records .now) (a .t)) (λ q. c .if3 .taken (c .before .before .owner-of .ensures ∙ ap (ownerOf M (a .records .now)) (c .before .before .before .named-by .ensures) ∙ q ∙ sym (c .before .owner-of2 .ensures))),
     )
 
 returns-4 : tie.Need-returns-4
@@ -56,7 +56,7 @@ returns-4 c =
     simp (
       lt-leb (levelOf (a .records .now) (a .t)) 1 h,
       ne-eqb (a .e) 0 (c .before .before .before .before .before .if2 .left),
-      eq-eqb (ownerOf M (named M (a .e))) (ownerOf M (a .t)) (sym (c .before .before .before .owner-of .ensures ∙ ap (ownerOf M) (c .before .before .before .before .named-by .ensures)) ∙ c .before .if3 .left ∙ c .before .before .owner-of2 .ensures),
+      eq-eqb (ownerOf M (a .records .now) (named M (a .e))) (ownerOf M (a .records .now) (a .t)) (sym (c .before .before .before .owner-of .ensures ∙ ap (ownerOf M (a .records .now)) (c .before .before .before .before .named-by .ensures)) ∙ c .before .if3 .left ∙ c .before .before .owner-of2 .ensures),
     )
     ((λ j. eqb ((c .level-of2 .ensures ∙ ap (levelOf (a .records .now)) (c .before .before .before .before .named-by .ensures)) j) (c .before .before .before .before .before .before .before .level-of .ensures j - 1))
     ∙ one-lower (levelOf (a .records .now) (named M (a .e))) l (omega arith))

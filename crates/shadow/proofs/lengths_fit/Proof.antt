@@ -3,6 +3,7 @@ use Prim.Native.Nat.{_*_}
 use lib.ListN.{length}
 use borrow.Author.Tests.{eq-eqb, ne-eqb}
 use borrow.Author.Needs.{needs}
+use Rattle.tables.specs.State.{recordSize}
 use Rattle.shadow.specs.After.{lengthsFit}
 use Rattle.shadow.proofs.lengths_fit.Statement.{statement}
 use Rattle.shadow.proofs.lengths_fit.Tie as tie
@@ -24,7 +25,7 @@ returns-3 c =
     simp (
       eq-eqb (length (a .map .now)) (a .z .frames) (c .before .before .if1 .left),
       eq-eqb (length (a .pool .now)) (512 * (a .z .processors * a .z .share)) (c .before .if2 .left),
-      ne-eqb (length (a .records .now)) (2 * (a .z .processors * a .z .share)) (c .if3 .taken),
+      ne-eqb (length (a .records .now)) (recordSize * (a .z .processors * a .z .share)) (c .if3 .taken),
     )
 
 returns-4 : tie.Need-returns-4
@@ -34,7 +35,7 @@ returns-4 c =
     simp (
       eq-eqb (length (a .map .now)) (a .z .frames) (c .before .before .if1 .left),
       eq-eqb (length (a .pool .now)) (512 * (a .z .processors * a .z .share)) (c .before .if2 .left),
-      eq-eqb (length (a .records .now)) (2 * (a .z .processors * a .z .share)) (c .if3 .left),
+      eq-eqb (length (a .records .now)) (recordSize * (a .z .processors * a .z .share)) (c .if3 .left),
     )
 
 pub lengths-fit-spec : {M : Type 1} → statement M

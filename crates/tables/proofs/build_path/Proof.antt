@@ -10,7 +10,7 @@ use Rattle.paging.proofs.Indices.{index-small}
 use Rattle.tables.specs.State.{machine64, shadowOf, SpotFits}
 use Rattle.tables.specs.Steps.{Settled, settledAt, guestEntry, taken, freeCount, hangNext, build}
 use Rattle.tables.proofs.Names.{few, frame-small}
-use Rattle.tables.proofs.Takes.{taken-table, hang-count}
+use Rattle.tables.proofs.Takes.{taken-may, hang-count}
 use Rattle.tables.proofs.Fills.{build-end, build-on}
 use Rattle.tables.proofs.build_path.Statement.{statement}
 use Rattle.tables.proofs.build_path.Tie as tie
@@ -30,7 +30,7 @@ hang-next-requires c κs =
     let a = c .before .before .before .before .before .before .before .before .before .args in
     let l = c .before .before .before .before .loop in (
       record { sized = c .before .before .before .before .before .before .before .before .before .pre .0 .sized; pairs = l .inv .3 ∙ c .before .before .before .before .before .before .before .before .before .pre .0 .pairs },
-      (l .inv .0, c .before .before .if1 .taken, taken-table (machine64 (a .z)) (a .p) (l .records) (omega (arith, l .inv .1))),
+      (l .inv .0, c .before .before .if1 .taken, taken-may (machine64 (a .z)) (a .p) (l .records) (omega (arith, l .inv .1)) .0),
     )
 
 -- where a turn leaves the fill
@@ -51,7 +51,7 @@ loop-again c =
     let m = ap (λ (d : Settled). d .spot .missing) e in (
       record {
         missing = omega (arith, m, l .inv .0 .missing);
-        table = omega (arith, ap (λ (d : Settled). d .spot .table) e, taken-table M (a .p) (l .records) (omega (arith, l .inv .1)));
+        table = omega (arith, ap (λ (d : Settled). d .spot .table) e, taken-may M (a .p) (l .records) (omega (arith, l .inv .1)) .0);
         frame = omega (arith, ap (λ (d : Settled). d .spot .frame .0) e, frame-small g);
       },
       omega (arith, m, l .inv .1, hang-count M (a .p) (l .records) u (n + 1) (guest (frameOf tables64 g)), ap (λ (d : Settled). freeCount M (a .p) (d .shadow .records)) e),
