@@ -1,5 +1,7 @@
+pub mod Places
 pub mod Tests
 pub mod Numbers
+pub mod Loops
 pub mod Finite
 pub mod Bits
 pub mod Rights
