@@ -16,7 +16,8 @@ use Rattle.rules.specs.History.{eventRefusal}
 use Rattle.shadow.specs.declared.Answer.the-variants.{Done, Address, Again, Refused}
 use Rattle.shadow.specs.After.{Result, asSetup, callRefusal, after, afterInvlpg, afterCr3, afterBegin, afterDrop}
 use Rattle.shadow.proofs.Accepted.{accepted-ranged, accepted-own, accepted-words, accepted-frames, accepted-event}
-use Rattle.trees.proofs.Trees.{Laid, Able}
+use Rattle.paging.specs.Sound.{Laid}
+use Rattle.trees.proofs.Trees.{Able}
 use Rattle.trees.proofs.Rules.{lawful-is}
 use Rattle.keeps.proofs.RightStates.{Mapped, RightState, words-right, reshaped-right}
 use Rattle.keeps.proofs.Moves.{drop-right, begin-right, extend-right, extend-words, extend-answer}

@@ -14,7 +14,8 @@ use Rattle.tables.specs.State.{Machine, Shadow, State, tableCount, ownerOf, nex
 use Rattle.tables.proofs.Counts.{by-cases}
 use Rattle.shadow.specs.After.{Result, callRefusal, after, afterBegin, afterDrop}
 use Rattle.shadow.proofs.Accepted.{accepted-ranged, accepted-own}
-use Rattle.trees.proofs.Trees.{Laid, Able, Same, Trees}
+use Rattle.paging.specs.Sound.{Laid}
+use Rattle.trees.proofs.Trees.{Able, Same, Trees}
 use Rattle.trees.proofs.Paths.{same-path, same-entry}
 use Rattle.keeps.proofs.RightStates.{Mapped, RightState}
 use Rattle.keeps.proofs.Moves.{extends}

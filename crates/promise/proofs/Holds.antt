@@ -17,7 +17,8 @@ use Rattle.rules.specs.View.{View, viewOf, endsCompleteOf}
 use Rattle.rules.specs.Kept.{stay}
 use Rattle.tables.specs.declared.Path.{Path}
 use Rattle.tables.specs.State.{Machine, State, slotCount, markOf, pageIn, placeIn, rightsIn, rootOf, nextEntry, pathTo}
-use Rattle.trees.proofs.Trees.{Laid, shd}
+use Rattle.paging.specs.Sound.{Laid}
+use Rattle.trees.proofs.Trees.{shd}
 use Rattle.trees.proofs.Paths.{FullSame}
 use Rattle.trees.proofs.Slots.{SameSlot}
 use Rattle.trees.proofs.SlotRules.{same-place, same-rights}

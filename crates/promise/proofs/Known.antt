@@ -20,7 +20,7 @@ use Rattle.shadow.specs.declared.Answer.the-variants.{Done, Address, Again}
 use Rattle.paging.specs.Frame.{mapFits, cr3sFit}
 use Rattle.paging.proofs.Tests.{both}
 use Rattle.shadow.specs.After.{Result, rangesFit, lengthsFit, poolFits, inPool, framesFit, rooted, setupRefusal}
-use Rattle.trees.proofs.Trees.{Laid}
+use Rattle.paging.specs.Sound.{Laid}
 use Rattle.trees.proofs.Entries.{laid64}
 use Rattle.keeps.proofs.Events as events
 use Rattle.promise.specs.Demand as D

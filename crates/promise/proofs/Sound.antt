@@ -28,7 +28,7 @@ use Rattle.shadow.specs.declared.Answer.the-variants.{Again, Address, Fault as 
 use Rattle.shadow.specs.After.{Result, valueAt, after}
 use Rattle.paging.proofs.Tests.{both}
 use Rattle.shadow.proofs.Accepted.{accepted-own}
-use Rattle.trees.proofs.Trees.{Laid}
+use Rattle.paging.specs.Sound.{Laid}
 use Rattle.trees.proofs.SlotRules.{right-complete}
 use Rattle.keeps.proofs.Moves.{page-small}
 use Rattle.keeps.proofs.Accesses.{Way, slot, shadow, fault as faulted, lacks, again, ways}
