@@ -1,6 +1,6 @@
 -- One byte further: the run of digits that is left, and its value.
 use mathlib.Core.Path.{_≡_, refl, sym, ap, ap₂, _∙_, subst⁻¹}
-use mathlib.Core.Bool.{Bool, true, false, cond, and-false, false≢true}
+use mathlib.Core.Bool.{Bool, true, false, cond, not, _&&_, and-false, false≢true}
 use mathlib.Core.List.{List, [], _∷_}
 use Prim.Native.Nat.{ℕ, suc, _+_, _-_, _*_, _^_, _≤_, _<_}
 use native.Mathlib.Nat.{le-refl, le-trans, add-zero}
@@ -8,11 +8,11 @@ use native.Mathlib.Omega.{arith}
 use lib.Dec.{ltb}
 use lib.ListN.{length, drop, getD, drop-of-length-le, length-drop}
 use lib.Seq.{getD-drop}
-use borrow.Author.Tests.{eq-eqb, ne-eqb, le-leb, lt-leb, lt-ltb, le-ltb}
+use borrow.Author.Tests.{eq-eqb, ne-eqb, le-leb, lt-leb, lt-ltb, le-ltb, ltb-true}
 use Rattle.cursor.specs.declared.Cursor.{Cursor}
 use Rattle.cursor.specs.declared.Digits.the-variants.{Value, Big}
 use Rattle.cursor.specs.declared.Next.the-variants.{Number, Bad}
-use Rattle.cursor.specs.Text.{Stands, lineAt, cursorAt, pastBlanks, isDigit, run, valueFrom, valueOf, digitsAt, isNumber, nextAt}
+use Rattle.cursor.specs.Text.{Stands, lineAt, cursorAt, pastBlanks, isDigit, run, valueFrom, valueOf, digitsAt, leadingZero, isNumber, nextAt}
 use Rattle.cursor.proofs.Lines.{left, line-same, blanks-few}
 
 pub digit-yes : (b : ℕ) → 48 ≤ b → b ≤ 57 → isDigit b ≡ true
@@ -162,6 +162,20 @@ next-line s at {v} {c} q =
     let e : c ≡ cursorAt s (here + length (run (drop here s))) =
     next-cases (isNumber (run (drop here s))) (valueOf (run (drop here s))) (lineAt s here) q in
     ap (λ (k : Cursor). k .line) e ∙ line-run s (drop here s) here refl
+
+small-cases : (t : Bool) (w line : ℕ) (d : Cursor) {v : ℕ} {c : Cursor} → (t ≡ true → w < 2 ^ 64) → Number v c ≡ cond t (Number w d) (Bad line) → v < 2 ^ 64
+small-cases true w line d {v} h q = let e : v ≡ w = cc in omega (arith, h refl)
+small-cases false w line d h q = let z : _≡_ {A = ℕ} 0 1 = cc in absurd (omega arith)
+
+pub next-small : (s : List ℕ) (at : ℕ) {v : ℕ} {c : Cursor} → Number v c ≡ nextAt s at → v < 2 ^ 64
+next-small s at q =
+    let digits = run (drop (pastBlanks s at) s) in
+    small-cases (isNumber digits) (valueOf digits) (lineAt s (pastBlanks s at)) (cursorAt s (pastBlanks s at + length digits))
+    (λ t. ltb-true (valueOf digits) (2 ^ 64) (last-true (ltb 0 (length digits) && not (leadingZero digits)) (ltb (valueOf digits) (2 ^ 64)) t)) q
+  where
+    last-true : (a b : Bool) → (a && b) ≡ true → b ≡ true
+    last-true true b e = e
+    last-true false b e = absurd (false≢true e)
 
 bad-cases : (t : Bool) (v line : ℕ) (c : Cursor) {l : ℕ} → Bad l ≡ cond t (Number v c) (Bad line) → l ≡ line
 bad-cases true v line c q = let z : _≡_ {A = ℕ} 0 1 = cc in absurd (omega arith)

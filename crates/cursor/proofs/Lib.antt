@@ -1,4 +1,5 @@
 pub mod Lines
 pub mod DigitRuns
 pub mod Decimals
+pub mod Back
 pub mod Lies

@@ -60,6 +60,11 @@ digitsIn (suc steps) n = cond (ltb n 10) ((48 + n) ∷ []) (digitsIn steps (n / 
 abbrev pub digitsOf : ℕ → List ℕ
 digitsOf n = digitsIn n n
 
+-- each number after a space, then a line feed
+unfoldable pub spaced : List ℕ → List ℕ
+spaced [] = 10 ∷ []
+spaced (n ∷ ns) = 32 ∷ digitsOf n ++ spaced ns
+
 -- the run of digits at a place: its value and the place after it
 abbrev pub digitsAt : List ℕ → ℕ → Digits
 digitsAt text at =

@@ -4,7 +4,7 @@ use mathlib.Core.Path.{_≡_, refl, sym, _∙_, ap}
 use mathlib.Core.Logic.{_⊎_, inl, inr}
 use mathlib.Core.Bool.{not}
 use mathlib.Core.List.{List}
-use Prim.Native.Nat.{ℕ, suc, _-_, _*_, _/_, _≤_, _<_}
+use Prim.Native.Nat.{ℕ, suc, _*_, _/_, _≤_, _<_}
 use native.Mathlib.Decide.{ℕ-discrete}
 use native.Mathlib.Omega.{arith}
 use lib.Dec.{T}
@@ -15,7 +15,6 @@ use Rattle.paging.specs.declared.Step.the-variants.{On, Complete}
 use Rattle.paging.specs.Layout.{Layout, frameWords, get, index}
 use Rattle.paging.specs.Walk.{step}
 use Rattle.paging.specs.Sound.{Sound}
-use Rattle.paging.proofs.Layouts.{place-frame}
 use Rattle.paging.proofs.Indices.{index-small}
 use Rattle.rules.specs.View.{View}
 use Rattle.rules.specs.Coherent.{Coherent, Rooted}
@@ -30,7 +29,6 @@ module _ (Y : Layout) (seen : View) (G page : ℕ) (words : ℕ → List ℕ) wh
   pub record Told : Type 0 where
     pub reads : (n : ℕ) (w : Walk) → seen .steps n w ≡ stepIn Y G page (words n) w
     pub sound : Sound Y
-    pub few : Y .levels ≤ 4
     pub law : Coherent seen (Y .levels) G
     pub root : Rooted seen G
 
@@ -42,7 +40,7 @@ module _ (Y : Layout) (seen : View) (G page : ℕ) (words : ℕ → List ℕ) wh
 
   module _ (t : Told) where
     pub kept-byte : {n : ℕ} {w : Walk} → Kept seen n w → HasByte G w
-    kept-byte h = record { level = omega (arith, kept-level seen (t .law) h, t .few); frame = kept-inside seen (t .law) (t .root) h; rights = kept-small seen (t .law) h }
+    kept-byte h = record { level = omega (arith, kept-level seen (t .law) h, t .sound .few-levels); frame = kept-inside seen (t .law) (t .root) h; rights = kept-small seen (t .law) h }
 
     on : (n : ℕ) → Onto Y G page (words n) (Kept seen n)
     on n x y h e = extend h (t .reads n x ∙ e)
@@ -58,7 +56,7 @@ module _ (Y : Layout) (seen : View) (G page : ℕ) (words : ℕ → List ℕ) wh
         → Stands Y G page (words 0) a ha (Y .levels) x
     stands a ha x hx e =
         let frame : x .frame .0 ≡ a / frameWords =
-        sym (place-frame Y (t .sound) (x .frame .0) (index Y page (x .level)) (index-small Y page (x .level))) ∙ ap (λ (w : ℕ). w / frameWords) e in
+        sym (t .sound .in-frame (x .frame .0) (index Y page (x .level)) (index-small Y page (x .level))) ∙ ap (λ (w : ℕ). w / frameWords) e in
         record { frame = frame; place = ap (λ (f : ℕ). Y .place f (index Y page (x .level))) (sym frame) ∙ e; level = hx }
 
     module _ (n a b : ℕ) (ha : a < frameWords * G) (store : words (suc n) ≡ set (words n) a b) (root : seen .begins (suc n) ≡ seen .begins n)
@@ -67,7 +65,7 @@ module _ (Y : Layout) (seen : View) (G page : ℕ) (words : ℕ → List ℕ) wh
       after = rereadWord Y G page (words (suc n)) a (Y .levels) work
 
       g : Grows G work (rereadWord Y G page (words (suc n)) a (Y .levels) work)
-      g = word-grows Y G page (words (suc n)) a ha (Y .levels) work (t .few) room
+      g = word-grows Y G page (words (suc n)) a ha (Y .levels) work (t .sound .few-levels) room
 
       pending : Closed Y G page (words (suc n)) (λ x y. Stands Y G page (words (suc n)) a ha (Y .levels) x) work
       pending x y hx mx s = go (ℕ-discrete (Y .place (x .frame .0) (index Y page (x .level))) a)
@@ -81,12 +79,12 @@ module _ (Y : Layout) (seen : View) (G page : ℕ) (words : ℕ → List ℕ) wh
       pub after-store : Tracks (suc n) (rereadWord Y G page (words (suc n)) a (Y .levels) work)
       after-store = record {
         bits = g .bits (old .bits);
-        sound = word-within Y G page (words (suc n)) a ha (Kept seen (suc n)) (on (suc n)) (Y .levels) work (t .few) room (λ x hx mx. stay (old .sound x hx mx) (quiet x));
+        sound = word-within Y G page (words (suc n)) a ha (Kept seen (suc n)) (on (suc n)) (Y .levels) work (t .sound .few-levels) room (λ x hx mx. stay (old .sound x hx mx) (quiet x));
         full = λ w h. full h refl;
       }
         where
           closed : Closed Y G page (words (suc n)) (λ x y. ⊥) (rereadWord Y G page (words (suc n)) a (Y .levels) work)
-          closed = word-closed Y G page (words (suc n)) a ha (Y .levels) work (t .few) room pending
+          closed = word-closed Y G page (words (suc n)) a ha (Y .levels) work (t .sound .few-levels) room pending
 
           next : (x y : Walk) → ByteSet G (rereadWord Y G page (words (suc n)) a (Y .levels) work) y ⊎ ⊥ → ByteSet G (rereadWord Y G page (words (suc n)) a (Y .levels) work) y
           next x y (inl m) = m

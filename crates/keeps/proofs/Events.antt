@@ -18,7 +18,8 @@ use Rattle.shadow.specs.After.{Result, poolFits, inPool, framesFit, callRefusal
 use Rattle.shadow.proofs.Sizing.{hosts-below}
 use Rattle.shadow.proofs.Accepted.{accepted-ranged, accepted-room, accepted-exact, accepted-frames, accepted-lawful, accepted-cr3, accepted-numbers}
 use Rattle.shadow.proofs.Moves.{seventh, moved-store, moved-invlpg, moved-cr3, moved-access, moved-begin, moved-extend, moved-drop}
-use Rattle.trees.proofs.Trees.{Laid, Able, able}
+use Rattle.paging.specs.Sound.{Laid}
+use Rattle.trees.proofs.Trees.{Able, able}
 use Rattle.trees.proofs.Rules.{lawful-is}
 use Rattle.keeps.proofs.RightStates.{Mapped, RightState}
 

@@ -9,4 +9,6 @@ pub mod Accesses
 pub mod Again
 pub mod Events
 pub mod Accepts
+pub mod Extends
+pub mod EventsKeep
 pub mod Theorems

@@ -77,7 +77,7 @@ module _ (G P : ℕ) (ws cs : List ℕ) (es : List Event) (p page : ℕ) where
   read-is n w = refl
 
   pub told : Fit U es → p < P → Told tables64 seen G page (wordsAt U es)
-  told fit h = record { reads = read-is; sound = tables64-sound; few = omega arith; law = coherent U es p page never tables64-sound; root = rooted U es p page never fit h }
+  told fit h = record { reads = read-is; sound = tables64-sound; law = coherent U es p page never tables64-sound; root = rooted U es p page never fit h }
 
   -- after n events
   pub record Follows (work₀ : List ℕ) (n : ℕ) (s : Replay) : Type 0 where

@@ -13,7 +13,7 @@ use borrow.Author.Tests.{eq-eqb, ne-eqb, eqb-false, not-true}
 use Rattle.paging.specs.declared.Guest.{Guest}
 use Rattle.paging.specs.declared.Host.{Host}
 use Rattle.paging.specs.declared.Origin.the-variants.{Of, Nowhere}
-use Rattle.paging.specs.Frame.{guest, hostOf, originFrom, originOf, isNew, mapFits}
+use Rattle.paging.specs.Frame.{guest, hostOf, originFrom, originOf, isNew, Distinct, mapFits}
 use Rattle.paging.proofs.Tests.{both}
 use Rattle.paging.proofs.Numbers.{all-at, all-same}
 
@@ -29,10 +29,6 @@ module _ (map : List ℕ) (h : Host) where
   pub origin-end : (i : ℕ) → length map ≤ i → originFrom i (drop i map) h ≡ Nowhere
   unfolding originFrom
   origin-end i le = rw (drop-of-length-le map le)
-
--- no map frame repeats
-abbrev pub Distinct : List ℕ → Type 0
-Distinct map = (i j : ℕ) → i < length map → j < length map → getD map i 0 ≡ getD map j 0 → i ≡ j
 
 -- frames of which none has its like before it
 pub distinct : (map : List ℕ) → ((i j : ℕ) → i < j → j < length map → getD map i 0 ≡ getD map j 0 → ⊥) → Distinct map

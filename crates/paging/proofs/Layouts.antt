@@ -73,9 +73,8 @@ pub tables64-sound : Sound tables64
 unfolding compose frameOf
 tables64-sound = record {
   some-level = omega arith;
-  apart = λ f g i j hi hj e. omega arith;
-  inside = λ f G i hi h. omega arith;
-  above = λ f G i h. omega arith;
+  few-levels = omega arith;
+  in-frame = λ f i h. omega arith;
   joined = λ i w e h. refl;
   beside = λ f i j w e hi hj ne same. absurd (ne (omega arith));
   bit-set = λ k i w h. refl;
@@ -94,6 +93,16 @@ by-fields G w here f r =
     (cond (not here) Absent (cond (ltb f G) (On (downTo (withRights w (meet (w .rights) r)) (guest f))) Beyond))
 
 module _ (Y : Layout) (ok : Sound Y) where
+  -- entries of different frames lie in different words, and all in the words of their frame
+  pub apart : (f g i j : ℕ) → i < 2 ^ Y .indexBits → j < 2 ^ Y .indexBits → Y .place f i ≡ Y .place g j → f ≡ g
+  apart f g i j hi hj e = sym (ok .in-frame f i hi) ∙ ap (λ (w : ℕ). w / frameWords) e ∙ ok .in-frame g j hj
+
+  pub inside : (f G i : ℕ) → i < 2 ^ Y .indexBits → f < G → Y .place f i < frameWords * G
+  inside f G i hi h = omega (arith, ok .in-frame f i hi)
+
+  pub above : (f G i : ℕ) → i < 2 ^ Y .indexBits → G ≤ f → frameWords * G ≤ Y .place f i
+  above f G i hi h = omega (arith, ok .in-frame f i hi)
+
   pub length-put : (ws : List ℕ) (f i e : ℕ) → length (put Y ws f i e) ≡ length ws
   unfolding put
   length-put ws f i e = simp length-set
@@ -114,16 +123,12 @@ module _ (Y : Layout) (ok : Sound Y) where
       go : Dec (Y .place g j ≡ Y .place f i) → Y .part j (getD (set ws (Y .place f i) word) (Y .place g j) 0) ≡ Y .part j (getD ws (Y .place g j) 0)
       go (no other) = ap (Y .part j) (getD-set-other ws (Y .place f i) (Y .place g j) word 0 other)
       go (yes same) =
-          let fg : f ≡ g = ok .apart f g i j hi hj (sym same) in
+          let fg : f ≡ g = apart f g i j hi hj (sym same) in
           let at-f : Y .place f i ≡ Y .place f j = sym same ∙ ap (λ (x : ℕ). Y .place x j) (sym fg) in
           ap (λ (k : ℕ). Y .part j (getD (set ws (Y .place f i) word) k 0)) same
           ∙ ap (Y .part j) (getD-set-same ws (Y .place f i) word 0 h)
           ∙ ok .beside f i j _ e hi hj (ne fg) at-f s
           ∙ ap (λ (k : ℕ). Y .part j (getD ws k 0)) (sym same)
-
-  -- the frame of a word is that of its entries
-  pub place-frame : (f i : ℕ) → i < 2 ^ Y .indexBits → Y .place f i / frameWords ≡ f
-  place-frame f i h = omega (arith, ok .inside f (f + 1) i h (omega arith), ok .above f f i (omega arith))
 
   -- past the words stand zeros
   pub get-past : (ws : List ℕ) (f i : ℕ) → length ws ≤ Y .place f i → get Y ws f i ≡ 0
@@ -232,7 +237,7 @@ module _ (Y : Layout) (ok : Sound Y) (ws : List ℕ) (k f i : ℕ) (flag : Flag 
       go (no other) d = ap (Y .part j) (getD-set-other ws (Y .place f i) (Y .place g j) word 0 other)
       go (yes same) (no out) = ap (λ (l : List ℕ). Y .part j (getD l (Y .place g j) 0)) (set-out ws (Y .place f i) word (omega arith))
       go (yes same) (yes h) =
-          let fg : f ≡ g = ok .apart f g i j hi hj (sym same) in
+          let fg : f ≡ g = apart Y ok f g i j hi hj (sym same) in
           let at-f : Y .place f i ≡ Y .place f j = sym same ∙ ap (λ (x : ℕ). Y .place x j) (sym fg) in
           ap (λ (k : ℕ). Y .part j (getD (set ws (Y .place f i) word) k 0)) same
           ∙ ap (Y .part j) (getD-set-same ws (Y .place f i) word 0 h)

@@ -74,9 +74,8 @@ pub tables32-sound : Sound tables32
 unfolding compose frameOf
 tables32-sound = record {
   some-level = omega arith;
-  apart = λ f g i j hi hj e. omega arith;
-  inside = λ f G i hi h. omega arith;
-  above = λ f G i h. omega arith;
+  few-levels = omega arith;
+  in-frame = λ f i h. omega arith;
   joined = λ i w e h. found (i % 2) w e h;
   beside = λ f i j w e hi hj ne same h. other (i % 2) (j % 2) w e (omega arith) (omega arith) (λ q. ne (omega arith)) h;
   bit-set = λ k i w flag. found (i % 2) w (withBit k (half (i % 2) w)) (with-bit-small k (half (i % 2) w) flag (half-small (i % 2) w));

@@ -1,8 +1,9 @@
 -- "A guest frame number and a host frame number are two separate counts, and neither may stand where the other is due."
 -- Guest and Host are two types; only the map, here, turns one into the other.
+use mathlib.Core.Path.{_≡_}
 use mathlib.Core.Bool.{Bool, cond, not, _&&_}
 use mathlib.Core.List.{List, [], _∷_}
-use Prim.Native.Nat.{ℕ, _+_, _^_}
+use Prim.Native.Nat.{ℕ, _+_, _^_, _<_}
 use lib.Dec.{eqb, ltb}
 use lib.ListN.{length, getD}
 use Rattle.paging.specs.declared.Guest.{Guest}
@@ -32,6 +33,10 @@ originOf map h = originFrom 0 map h
 -- none of the first n frames of a map is f
 abbrev pub isNew : List ℕ → ℕ → ℕ → Bool
 isNew map n f = all n (λ j. not (eqb (getD map j 0) f))
+
+-- no map frame repeats
+abbrev pub Distinct : List ℕ → Type 0
+Distinct map = (i j : ℕ) → i < length map → j < length map → getD map i 0 ≡ getD map j 0 → i ≡ j
 
 -- "a map frame repeats, is 2^40 or more": the frame at each place is below the limit and new among those before it
 unfoldable pub mapFits : ℕ → List ℕ → Bool

@@ -2,7 +2,7 @@
 use mathlib.Core.Path.{_≡_}
 use mathlib.Core.Logic.{_⊎_}
 use Prim.Native.Nat.{ℕ, _-_, _*_, _/_, _%_, _^_, _≤_, _<_}
-use Rattle.paging.specs.Layout.{Layout, frameWords, bit, frameOf, compose, withBit}
+use Rattle.paging.specs.Layout.{Layout, frameWords, bit, frameOf, rightsOf, compose, withBit}
 
 -- two entries that agree in all bits but 5 and 6, A and D
 pub record Alike (e d : ℕ) : Type 0 where
@@ -15,10 +15,9 @@ Flag k = (k ≡ 5) ⊎ (k ≡ 6)
 
 pub record Sound (Y : Layout) : Type 0 where
   pub some-level : 0 < Y .levels
-  -- entries of different frames lie in different words, and all in the words of their frame
-  pub apart : (f g i j : ℕ) → i < 2 ^ Y .indexBits → j < 2 ^ Y .indexBits → Y .place f i ≡ Y .place g j → f ≡ g
-  pub inside : (f G i : ℕ) → i < 2 ^ Y .indexBits → f < G → Y .place f i < frameWords * G
-  pub above : (f G i : ℕ) → G ≤ f → frameWords * G ≤ Y .place f i
+  pub few-levels : Y .levels ≤ 4
+  -- entry i of frame f lies in frame f
+  pub in-frame : (f i : ℕ) → i < 2 ^ Y .indexBits → Y .place f i / frameWords ≡ f
   -- an entry that is put in is found again, and the others of its word stay
   pub joined : (i w e : ℕ) → e < 2 ^ Y .entryBits → Y .part i (Y .join i w e) ≡ e
   pub beside : (f i j w e : ℕ) → i < 2 ^ Y .indexBits → j < 2 ^ Y .indexBits → (i ≡ j → ⊥) → Y .place f i ≡ Y .place f j
@@ -37,3 +36,10 @@ pub record Sound (Y : Layout) : Type 0 where
       → Y .nx (compose Y r d f) ≡ 1 - bit r 2
   -- NX lies above A and D, so the bits below it are the sum's own
   pub nx-high : (x : ℕ) → x * Y .nxAlone % 2 ^ 12 ≡ 0
+
+-- and for tables of a machine: there is a level above the last, a composed entry is an entry, and without NX X is always granted
+pub record Laid (Y : Layout) : Type 0 where
+  pub sound : Sound Y
+  pub upper : 1 < Y .levels
+  pub fits : (r d f : ℕ) → r < 8 → d < 2 → f < 2 ^ Y .frameBits → compose Y r d f < 2 ^ Y .entryBits
+  pub grants : (e : ℕ) → Y .nxAlone ≡ 0 → bit (rightsOf Y e) 2 ≡ 1

@@ -32,8 +32,7 @@ module _ (M : Machine) (ok : Able M) (cr3s : List ℕ) where
   zero-entry : (t i : ℕ) (records : List ℕ) → ent M (shadowOf zeros records) t i ≡ 0
   unfolding get
   zero-entry t i records =
-      ap (M .tables .part i) (zeros-at (frameWords * tableCount M) (M .tables .place t i) ∙ sym (zeros-at (frameWords * tableCount M) (M .tables .place (tableCount M) i)))
-      ∙ ok .past zeros (length-replicate _ 0) (tableCount M) i (omega arith)
+      ap (M .tables .part i) (zeros-at (frameWords * tableCount M) (M .tables .place t i)) ∙ ok .sound .zero-part i
 
   -- the roots of the first n processors are set up, all other records are zeros
   record Rooted (n : ℕ) (s : Shadow) : Type 0 where

@@ -14,7 +14,7 @@ use Rattle.tables.specs.State.{Machine, Shadow, State, tableCount, nextEntry, p
 use Rattle.tables.proofs.Counts.{by-cases}
 use Rattle.shadow.specs.After.{Result, faulted, callRefusal, after, afterBegin, afterDrop}
 use Rattle.shadow.proofs.Accepted.{accepted-ranged, accepted-own}
-use Rattle.trees.proofs.Trees.{Laid, Able, own, Another, Same, Trees}
+use Rattle.trees.proofs.Trees.{Able, own, Another, Same, Trees}
 use Rattle.trees.proofs.Paths.{same-path, same-entry}
 use Rattle.keeps.proofs.RightStates.{Mapped, RightState}
 use Rattle.keeps.proofs.Moves.{extends}
@@ -23,6 +23,7 @@ use Rattle.keeps.proofs.Accesses.{walkedOver, Way, slot, shadow, fault, lacks, 
 use Rattle.keeps.proofs.Again.{Serves}
 use Rattle.keeps.proofs.Events.{accepted-mapped, accepted-able, accepted-right, Kind, store, invlpg, cr3, access, begin, extend, drop, kinds}
 use Rattle.promise.specs.Demand.{mayStandBetween}
+use Rattle.paging.specs.Sound.{Laid}
 
 -- the page's path serves in any state with the same tables
 pub serves-by : (M : Machine) (p page : ℕ) (q : Request) (s s′ : State) → s′ .shadow ≡ s .shadow → Serves M s p page q → Serves M s′ p page q

@@ -7,7 +7,7 @@ use Rattle.rules.specs.History.{eventAt}
 use Rattle.tables.specs.State.{State}
 use Rattle.shadow.specs.After.{Result, callRefusal, after}
 use Rattle.keeps.proofs.Events.{Kind, store, invlpg, cr3, access, begin, extend, drop, kinds}
-use Rattle.keeps.proofs.Theorems.{right-after, words-after}
+use Rattle.keeps.proofs.EventsKeep.{right-after, words-after}
 use Rattle.promise.specs.Demand.{Fresh}
 use Rattle.promise.proofs.Holds.{Holds}
 use Rattle.promise.proofs.Carries.{After, stored, invalidated, written, begun, lost}

@@ -17,7 +17,7 @@ use Rattle.rules.specs.Kept.{stay}
 use Rattle.rules.proofs.Views.{other-idle, page-idle, kind-idle}
 use Rattle.tables.specs.declared.Path.{Path}
 use Rattle.tables.specs.State.{Machine, State, slotCount, markOf, pageIn, placeIn, rightsIn, rootOf, nextEntry, pathTo}
-use Rattle.trees.proofs.Trees.{Laid, shd}
+use Rattle.trees.proofs.Trees.{shd}
 use Rattle.trees.proofs.Paths.{FullSame}
 use Rattle.trees.proofs.Slots.{SameSlot}
 use Rattle.trees.proofs.SlotRules.{same-place, same-rights}
@@ -25,6 +25,7 @@ use Rattle.keeps.proofs.Alikes.{Same}
 use Rattle.keeps.proofs.RightStates.{RightState}
 use Rattle.promise.specs.Demand.{Fresh, guestOf}
 use Rattle.promise.proofs.Settles.{Backed}
+use Rattle.paging.specs.Sound.{Laid}
 
 module _ (F : Fresh) (es : List Event) where
   abbrev M : Machine

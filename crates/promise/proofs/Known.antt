@@ -21,16 +21,16 @@ use Rattle.shadow.specs.declared.Answer.the-variants.{Done, Address, Again}
 use Rattle.paging.specs.Frame.{mapFits, cr3sFit}
 use Rattle.paging.proofs.Tests.{both}
 use Rattle.shadow.specs.After.{Result, rangesFit, lengthsFit, poolFits, inPool, framesFit, rooted, setupRefusal}
-use Rattle.trees.proofs.Trees.{Laid}
 use Rattle.trees.proofs.Entries.{laid64}
-use Rattle.keeps.proofs.Events as events
-use Rattle.promise.specs.Demand as D
 use Rattle.promise.specs.Demand.{Fresh, Run, guestOf, does, stateAt, before, answerAt, Says, place, code, Settles, SettlesInTwo}
 use Rattle.promise.specs.Known.{KnownRun, runOf, Answers, AllAnswer, runs, stored, narrowed, beside, slotted, crowded, written}
 use Rattle.promise.proofs.Quick.{stateBy, answers-by, quickly, Quick, stored-quick, narrowed-quick, beside-quick, slotted-quick, crowded-quick, written-quick}
 use Rattle.promise.proofs.Lossless.{none-lost}
 use Rattle.promise.proofs.Started.{accepted}
 use Rattle.promise.proofs.Theorems.{demand-three}
+use Rattle.paging.specs.Sound.{Laid}
+use Rattle.keeps.proofs.Events as events
+use Rattle.promise.specs.Demand as D
 
 -- ---- the hypotheses, as tests
 

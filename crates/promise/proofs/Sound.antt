@@ -28,18 +28,18 @@ use Rattle.shadow.specs.declared.Answer.the-variants.{Again, Address, Fault as 
 use Rattle.shadow.specs.After.{Result, valueAt, after}
 use Rattle.paging.proofs.Tests.{both}
 use Rattle.shadow.proofs.Accepted.{accepted-own}
-use Rattle.trees.proofs.Trees.{Laid}
 use Rattle.trees.proofs.SlotRules.{right-complete}
 use Rattle.keeps.proofs.Moves.{page-small}
 use Rattle.keeps.proofs.Accesses.{Way, slot, shadow, fault as faulted, lacks, again, ways}
 use Rattle.keeps.proofs.Events.{Kind, store, invlpg, cr3, access, begin, extend, drop, kinds}
-use Rattle.promise.specs.Demand as D
 use Rattle.promise.specs.Demand.{Fresh, Run, guestOf, does, before, answerAt, questionAt, Says, place, code, Settles}
 use Rattle.promise.proofs.Settles.{Backed, address-permitted, absent-permitted, beyond-permitted, lacking-permitted}
 use Rattle.promise.proofs.GuestWalks.{Ends, whole, absent, beyond}
 use Rattle.promise.proofs.Holds.{seen, Holds}
 use Rattle.promise.proofs.Accessed.{law, reads, rules, walk-ends, walk-held}
 use Rattle.promise.proofs.Started.{holds-before, accepted}
+use Rattle.paging.specs.Sound.{Laid}
+use Rattle.promise.specs.Demand as D
 
 module _ (F : Fresh) (laid : Laid (F .machine .tables)) (fresh : D.SetupFits F) (r : Run) (fit : Fit (guestOf F) (r .events)) (k : ℕ) (hk : k < length (r .events)) where
   abbrev M : Machine

@@ -10,7 +10,8 @@ use Rattle.tables.specs.State.{Machine, State}
 use Rattle.shadow.specs.After.{rangesFit, lengthsFit, framesFit, callRefusal}
 use Rattle.shadow.proofs.Sizing.{Ranged}
 use Rattle.shadow.proofs.Starting.{accepted-sizes, setup-exact, setup-ranged, setup-room}
-use Rattle.trees.proofs.Trees.{Laid, Able, able}
+use Rattle.paging.specs.Sound.{Laid}
+use Rattle.trees.proofs.Trees.{Able, able}
 use Rattle.trees.proofs.Paths.{zero-absent}
 use Rattle.trees.proofs.SlotRules.{empty-right}
 use Rattle.keeps.proofs.Alikes.{same-refl}

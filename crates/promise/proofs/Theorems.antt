@@ -15,9 +15,10 @@ use Rattle.tables.proofs.Counts.{by-cases}
 use Rattle.shadow.specs.declared.Answer.the-variants.{Address, Again}
 use Rattle.shadow.specs.After.{after}
 use Rattle.shadow.proofs.Accepted.{accepted-own}
-use Rattle.trees.proofs.Trees.{Laid}
+use Rattle.paging.specs.Sound.{Laid}
 use Rattle.keeps.proofs.Again.{Serves}
-use Rattle.keeps.proofs.Theorems.{again-serves, served-address, never-refused}
+use Rattle.keeps.proofs.EventsKeep.{again-serves, served-address}
+use Rattle.keeps.proofs.Theorems.{never-refused}
 use Rattle.promise.specs.Demand as D
 use Rattle.promise.specs.Demand.{Fresh, Run, guestOf, stateAt, before, answerAt, Settles, mayStandBetween, Accepts, Demand, losing}
 use Rattle.promise.proofs.Started.{accepted}

@@ -9,16 +9,10 @@ use lib.ListN.{length}
 use Rattle.cursor.specs.Text.{lineAt, pastBlanks}
 use Rattle.sections.specs.declared.Section.the-variants.{Map, Cr3s, Words, Events, Questions}
 use Rattle.sections.specs.Sections.{got, refused, section, Puzzle, ended, puzzleOf}
-use Rattle.sections.proofs.Ranged.{both, Ranged, ranged}
+use Rattle.sections.proofs.Ranged.{both, ranged}
+use Rattle.puzzle.specs.Lines.{InRange}
 use Rattle.puzzle.specs.PartsCode.{lists}
 use Rattle.puzzle.proofs.Chain.{fromCr3s, fromWords, fromEvents, fromQuestions, fromEnd}
-
-pub record InRange (z : Puzzle) : Type 0 where
-  pub map : Ranged Map 0 0 (z .map)
-  pub cr3s : Ranged Cr3s (length (z .map)) 0 (z .cr3s)
-  pub pairs : Ranged Words (length (z .map)) (length (z .cr3s)) (z .pairs)
-  pub events : Ranged Events (length (z .map)) (length (z .cr3s)) (z .events)
-  pub questions : Ranged Questions (length (z .map)) (length (z .cr3s)) (z .questions)
 
 ended-if : (b : Bool) (z : Puzzle) (n line : ℕ) {y : Puzzle} {at : ℕ} → cond b (got z n) (refused 10 line) ≡ got y at → z ≡ y
 ended-if true z n line e = cc

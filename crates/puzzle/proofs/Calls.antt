@@ -11,11 +11,10 @@ use borrow.Author.Tests.{eq-eqb, ltb-true}
 use Rattle.sections.specs.declared.Section.the-variants.{Words}
 use Rattle.puzzle.specs.declared.ReadResult.{ReadResult}
 use Rattle.puzzle.specs.declared.ReadResult.the-variants.{Accepted, Refused}
-use Rattle.sections.specs.Sections.{Got, got, refused, Puzzle, puzzleOf, wordRange}
+use Rattle.sections.specs.Sections.{Got, got, refused, Puzzle, puzzleOf, wordRange, RangedSection}
 use Rattle.puzzle.specs.Buffers.{Buffers, buffers, after, withPairs, wordsOf, laid, verdictOf, answer}
 use Rattle.puzzle.specs.PartsCode.{WordsBelow, fronts, Whole, accepts}
 use Rattle.paging.proofs.Tests.{both}
-use Rattle.sections.proofs.Ranged.{Ranged}
 use Rattle.puzzle.proofs.Accepted.{accepted}
 use Rattle.puzzle.proofs.Fills.{kept-laid, stored-laid, counts-are}
 
@@ -39,7 +38,7 @@ word-below G v i l h e =
     let even : length (take (i * 2) l) % 2 ≡ 0 = omega arith in
     ltb-true v (512 * G) (both (ltb v (512 * G)) _ (simp (eq-eqb (length (take (i * 2) l) % 2) 0 even) at e) .0)
 
-pub words-below : {G P : ℕ} {l : List ℕ} → Ranged Words G P l → WordsBelow (512 * G) l
+pub words-below : {G P : ℕ} {l : List ℕ} → RangedSection Words G P l → WordsBelow (512 * G) l
 words-below {G} {P} {l} r = λ i h. word-below G (getD l (i * 2) 0) i l (omega arith) (r .each (i * 2) h)
 
 module _ {text : List ℕ} {old new : Puzzle} {g p w e q : ℕ} (k : Whole text old new g p w e q) where

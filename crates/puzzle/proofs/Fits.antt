@@ -12,19 +12,19 @@ use Rattle.paging.specs.Layout.{tables64}
 use Rattle.paging.specs.Numbers.{isBetween}
 use Rattle.paging.proofs.Tests.{both}
 use Rattle.paging.proofs.Numbers.{between}
-use Rattle.paging.proofs.Frames.{Distinct, distinct, new-differs, new-cut}
+use Rattle.paging.specs.Frame.{Distinct}
+use Rattle.paging.proofs.Frames.{distinct, new-differs, new-cut}
 use Rattle.rules.specs.Refusal.{refusal}
 use Rattle.rules.specs.History.{Setup, eventRefusal, setup64}
 use Rattle.rules.specs.Outcome.{questionRefusal}
 use Rattle.sections.specs.declared.Section.the-variants.{Map, Cr3s, Events, Questions}
-use Rattle.sections.specs.Sections.{mapRange, aRange, bRange, eventRange, questionRange}
-use Rattle.sections.proofs.Ranged.{Ranged}
+use Rattle.sections.specs.Sections.{mapRange, aRange, bRange, eventRange, questionRange, RangedSection}
 use Rattle.rules.specs.Numbers.{eventOf, questionOf}
 use Rattle.puzzle.specs.Setup.{InEvent}
 
 -- ---- map frames
 
-module _ {l : List ℕ} (r : Ranged Map 0 0 l) where
+module _ {l : List ℕ} (r : RangedSection Map 0 0 l) where
   pub frame-below : (i : ℕ) → i < length l → getD l i 0 < 2 ^ 20
   unfolding mapRange
   frame-below i h = ltb-true (getD l i 0) (2 ^ 20) (both (ltb (getD l i 0) (2 ^ 20)) _ (r .each i h) .0)
@@ -38,7 +38,7 @@ module _ {l : List ℕ} (r : Ranged Map 0 0 l) where
           let e = both (ltb (getD l j 0) (2 ^ 20)) _ (r .each j k) .1 in
           new-differs l j (getD l j 0) (sym (new-cut l j (getD l j 0) (omega arith)) ∙ e) i h
 
-pub cr3-below : {G : ℕ} {l : List ℕ} → Ranged Cr3s G 0 l → (i : ℕ) → i < length l → getD l i 0 < G
+pub cr3-below : {G : ℕ} {l : List ℕ} → RangedSection Cr3s G 0 l → (i : ℕ) → i < length l → getD l i 0 < G
 cr3-below {G} {l} r i h = ltb-true (getD l i 0) G (r .each i h)
 
 -- ---- an event whose numbers are in range
@@ -126,7 +126,7 @@ module _ (G P : ℕ) (before : List ℕ) (v : ℕ) where
   unfolding eventRange
   fourth-of-four e = simp e
 
-module _ {G P : ℕ} {l : List ℕ} (r : Ranged Events G P l) (k : ℕ) (h : 4 * k < length l) where
+module _ {G P : ℕ} {l : List ℕ} (r : RangedSection Events G P l) (k : ℕ) (h : 4 * k < length l) where
   whole-event : 4 * k + 3 < length l
   whole-event = omega (arith, r .long)
 
@@ -163,7 +163,7 @@ module _ {G P : ℕ} {l : List ℕ} (r : Ranged Events G P l) (k : ℕ) (h : 4 *
 
 -- ---- a question, which is tested as an access
 
-module _ {G P : ℕ} {l : List ℕ} (r : Ranged Questions G P l) (k : ℕ) (h : 3 * k < length l) where
+module _ {G P : ℕ} {l : List ℕ} (r : RangedSection Questions G P l) (k : ℕ) (h : 3 * k < length l) where
   whole-question : 3 * k + 2 < length l
   whole-question = omega (arith, r .long)
 

@@ -5,9 +5,7 @@ use mathlib.Core.List.{List}
 use Prim.Native.Nat.{ℕ, _*_, _^_, _<_}
 use lib.ListN.{length, getD, length-replicate}
 use Rattle.cursor.specs.Text.{valueOf, digitsOf}
-use Rattle.cursor.proofs.Decimals as decimals
 use Rattle.paging.specs.Layout.{frameWords}
-use Rattle.paging.proofs.Frames.{Distinct}
 use Rattle.rules.specs.declared.Event.{Event}
 use Rattle.rules.specs.History.{eventRefusal, setup64}
 use Rattle.rules.specs.Outcome.{questionRefusal}
@@ -17,8 +15,12 @@ use Rattle.rules.specs.Numbers.{eventOf, questionOf}
 use Rattle.puzzle.specs.Setup.{setupOf, InEvent}
 use Rattle.puzzle.proofs.Accepted.{accepted}
 use Rattle.puzzle.proofs.Fills.{length-stored}
-use Rattle.puzzle.proofs.Faults as faults
 use Rattle.puzzle.proofs.Fits.{event-in, event-out, frame-below, frames-differ, cr3-below, event-fits, question-fits}
+use Rattle.paging.specs.Frame.{Distinct}
+use Rattle.puzzle.specs.Lines.{InRange, linesOf}
+use Rattle.puzzle.proofs.Back.{lines-back}
+use Rattle.cursor.proofs.Decimals as decimals
+use Rattle.puzzle.proofs.Faults as faults
 
 -- THE PROMISE OF `read` ALLOWS ONE RESULT AND ONE CONTENT OF EACH BUFFER, on every text and all buffers, refused or not
 pub read-unique : (text : List ℕ) (before : Buffers) (x y : After) → x ≡ readCall text before → y ≡ readCall text before → x ≡ y
@@ -31,6 +33,14 @@ ten-or-eleven = faults.ten-or-eleven
 -- READING BACK WHAT WAS WRITTEN: the digits of a number have its value
 pub value-digits : (n : ℕ) → valueOf (digitsOf n) ≡ n
 value-digits = decimals.value-digits
+
+-- A PUZZLE CAN BE READ IF AND ONLY IF ITS SECTIONS ARE IN RANGE: what is read is in range, and a text made of lines in range is
+-- accepted and gives those numbers
+pub in-range : (text : List ℕ) {z : Puzzle} {at : ℕ} → puzzleOf text ≡ got z at → InRange z
+in-range = accepted
+
+pub lines-accepted : (z : Puzzle) → InRange z → puzzleOf (linesOf z) ≡ got z (length (linesOf z))
+lines-accepted = lines-back
 
 -- 11 STANDS FOR 4 TO 9 AND FOR THE RULES' OWN 11: the four numbers of an event are in range if and only if the rules do not refuse it
 pub ranges-right : (G P : ℕ) (words cr3s : List ℕ) (e : Event) → eventRefusal (setup64 G P words cr3s) e ≡ 0 ↔ InEvent G P (e .kind) (e .proc) (e .a) (e .b)

@@ -1,3 +1,4 @@
 pub mod Buffers
 pub mod Setup
+pub mod Lines
 pub mod PartsCode

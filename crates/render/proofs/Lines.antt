@@ -6,8 +6,7 @@ use native.Mathlib.Numerals.{add-one}
 use native.Mathlib.Omega.{arith}
 use lib.ListN.{length, drop, getD, set, drop-of-length-le, length-drop}
 use lib.Seq.{drop-cons}
-use Rattle.cursor.specs.Text.{digitsOf}
-use Rattle.render.specs.Render.{numbers}
+use Rattle.cursor.specs.Text.{digitsOf, spaced}
 use Rattle.render.specs.WrittenCode.{Out, outOf, written}
 use Rattle.render.specs.LinesCode.{pairLine, pairLines}
 use Rattle.render.proofs.Writes.{written-append}
@@ -21,16 +20,16 @@ then-rest : (piece rest whole : List ℕ) (o : Out) {o′ : Out} → o′ ≡ wr
 then-rest piece rest whole o e w = ap (written rest) e ∙ sym (written-append piece rest o) ∙ ap (λ (l : List ℕ). written l o) (sym w)
 
 pub number-more : (ns : List ℕ) (i : ℕ) → i < length ns → (o : Out) {o′ : Out} → o′ ≡ written (32 ∷ digitsOf (getD ns i 0)) o
-    → written (numbers (drop (i + 1) ns)) o′ ≡ written (numbers (drop i ns)) o
-unfolding numbers
+    → written (spaced (drop (i + 1) ns)) o′ ≡ written (spaced (drop i ns)) o
+unfolding spaced
 number-more ns i h o e =
     let n : List ℕ = 32 ∷ digitsOf (getD ns i 0) in
-    then-rest n (numbers (drop (i + 1) ns)) (numbers (drop i ns)) o e
-    (ap numbers (drop-cons ns i 0 h) ∙ ap (λ (k : ℕ). n ++ numbers (drop k ns)) (sym (add-one i)))
+    then-rest n (spaced (drop (i + 1) ns)) (spaced (drop i ns)) o e
+    (ap spaced (drop-cons ns i 0 h) ∙ ap (λ (k : ℕ). n ++ spaced (drop k ns)) (sym (add-one i)))
 
-pub number-end : (ns : List ℕ) (i : ℕ) → length ns ≤ i → numbers (drop i ns) ≡ 10 ∷ []
-unfolding numbers
-number-end ns i h = ap numbers (drop-of-length-le ns h)
+pub number-end : (ns : List ℕ) (i : ℕ) → length ns ≤ i → spaced (drop i ns) ≡ 10 ∷ []
+unfolding spaced
+number-end ns i h = ap spaced (drop-of-length-le ns h)
 
 module _ (map : List ℕ) (addr : ℕ) (ns : List ℕ) (k : ℕ) where
   pub pair-more : 2 * k + 1 < length ns → (o : Out) {o′ : Out} → o′ ≡ written (pairLine map addr (getD ns (2 * k) 0) (getD ns (2 * k + 1) 0)) o

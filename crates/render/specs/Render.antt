@@ -2,20 +2,15 @@
 use mathlib.Core.List.{List, [], _∷_, _++_}
 use Prim.Native.Nat.{ℕ, _+_, _*_, _%_}
 use lib.ListN.{length}
-use Rattle.cursor.specs.Text.{digitsOf}
+use Rattle.cursor.specs.Text.{spaced}
 use Rattle.paging.specs.Frame.{hostOf}
 use Rattle.rules.specs.declared.Question.{Question}
 use Rattle.rules.specs.declared.Outcome.{Outcome}
 use Rattle.rules.specs.declared.Outcome.the-variants.{Address, Fault}
 
--- each number after a space, then a line feed
-unfoldable pub numbers : List ℕ → List ℕ
-numbers [] = 10 ∷ []
-numbers (n ∷ ns) = 32 ∷ digitsOf n ++ numbers ns
-
 -- a letter and its numbers
 abbrev pub line : ℕ → List ℕ → List ℕ
-line letter ns = letter ∷ numbers ns
+line letter ns = letter ∷ spaced ns
 
 -- "`R number line`"
 abbrev pub renderRefusal : ℕ → ℕ → List ℕ

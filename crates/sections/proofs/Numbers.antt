@@ -43,7 +43,7 @@ module _ (fits : List ℕ → ℕ → Bool) (text : List ℕ) (at m : ℕ) (befo
   unfolding numbers
   numbers-refused e = ap (λ (r : Got ℕ). r then rest) e
 
-  numbers-more : {v to : ℕ} → due (fits before) text at ≡ got v to → numbers fits text (suc m) before at ≡ numbers fits text m (before ++ v ∷ []) to
+  pub numbers-more : {v to : ℕ} → due (fits before) text at ≡ got v to → numbers fits text (suc m) before at ≡ numbers fits text m (before ++ v ∷ []) to
   unfolding numbers
   numbers-more e = ap (λ (r : Got ℕ). r then rest) e
 

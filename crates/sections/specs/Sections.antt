@@ -1,9 +1,10 @@
 -- "Puzzle text": from the numbers of a text to a puzzle. Each number is judged in its turn, so "the first place decides".
+use mathlib.Core.Path.{_≡_}
 use mathlib.Core.Bool.{Bool, true, cond, _&&_, _||_}
 use mathlib.Core.List.{List, [], _∷_, _++_}
-use Prim.Native.Nat.{ℕ, zero, suc, _-_, _*_, _%_, _^_}
+use Prim.Native.Nat.{ℕ, zero, suc, _-_, _*_, _%_, _^_, _<_}
 use lib.Dec.{eqb, ltb, leb}
-use lib.ListN.{length, getD}
+use lib.ListN.{length, take, getD}
 use Rattle.cursor.specs.declared.Next.{Next}
 use Rattle.cursor.specs.declared.Next.the-variants.{Number, Bad}
 use Rattle.cursor.specs.Text.{lineAt, pastBlanks, nextAt}
@@ -98,6 +99,14 @@ inRange Cr3s G P before v = ltb v G
 inRange Words G P before v = wordRange G before v
 inRange Events G P before v = eventRange G P before v
 inRange Questions G P before v = questionRange P (length before) v
+
+-- a section in range: its count, and each of its numbers after those before it
+pub record RangedSection (k : Section) (G P : ℕ) (ns : List ℕ) : Type 0 where
+  pub count : ℕ
+  pub counted : countRange k G count ≡ true
+  pub long : length ns ≡ count * width k
+  pub each : (i : ℕ) → i < length ns → inRange k G P (take i ns) (getD ns i 0) ≡ true
+  pub small : (i : ℕ) → i < length ns → getD ns i 0 < 2 ^ 64
 
 unfoldable pub section : Section → ℕ → ℕ → List ℕ → ℕ → Got (List ℕ)
 section k G P text at = due (countRange k G) text at then λ n at. numbers (inRange k G P) text (n * width k) [] at

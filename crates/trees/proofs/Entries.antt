@@ -9,14 +9,15 @@ use lib.Seq.{getD-set-same, getD-set-other}
 use borrow.Author.Tests.{ltb-true}
 use Rattle.paging.specs.declared.Guest.{Guest}
 use Rattle.paging.specs.Layout.{tables64, bit, frameOf, rightsOf, compose, isPresent}
-use Rattle.paging.proofs.Layouts.{tables64-sound, length-put, get-put, get-put-other, composed-present, composed-rights}
+use Rattle.paging.proofs.Layouts.{tables64-sound, length-put, get-put, get-put-other, composed-present, composed-rights, inside}
 use Rattle.paging.proofs.Narrow.{tables32, tables32-sound}
 use Rattle.paging.proofs.Tests.{both}
 use Rattle.tables.specs.declared.Sizes.{Sizes}
 use Rattle.tables.specs.State.{Machine, Shadow, onPool, onRecords, machine64, recordSize, withRecord, tableCount, entryCount, withEntry, named, Sized}
 use Rattle.tables.proofs.Names.{named-absent, named-on}
 use Rattle.lawful.specs.Rules.{isMadeWith, isBranch}
-use Rattle.trees.proofs.Trees.{Laid, Able, able, Exact, ent, lev, shd, Names}
+use Rattle.trees.proofs.Trees.{Able, able, Exact, ent, lev, shd, Names}
+use Rattle.paging.specs.Sound.{Laid}
 
 -- ---- the 64-bit machine is able
 
@@ -60,11 +61,11 @@ module _ (M : Machine) (ok : Able M) (s : Shadow) (exact : Exact M s) where
     s′ = onPool (withEntry M t i e) s
 
     pub entry-here : ent M s′ t i ≡ e
-    entry-here = get-put (M .tables) (ok .sound) (s .pool) t i e (rw (exact .words) (ok .sound .inside t (tableCount M) i hi ht)) he
+    entry-here = get-put (M .tables) (ok .sound) (s .pool) t i e (rw (exact .words) (inside (M .tables) (ok .sound) t (tableCount M) i hi ht)) he
 
     pub entry-other : (v k : ℕ) → k < entryCount M → (t ≡ v → i ≡ k → ⊥) → ent M s′ v k ≡ ent M s v k
     entry-other v k hk ne =
-        get-put-other (M .tables) (ok .sound) (s .pool) t v i k e hi hk (rw (exact .words) (ok .sound .inside t (tableCount M) i hi ht)) he ne
+        get-put-other (M .tables) (ok .sound) (s .pool) t v i k e hi hk (rw (exact .words) (inside (M .tables) (ok .sound) t (tableCount M) i hi ht)) he ne
 
     pub entry-exact : Exact M s′
     entry-exact = record { words = length-put (M .tables) (ok .sound) (s .pool) t i e ∙ exact .words; pairs = exact .pairs }

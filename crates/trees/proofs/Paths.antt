@@ -42,7 +42,7 @@ module _ (M : Machine) (pool : List ℕ) (page : ℕ) where
 
 module _ (M : Machine) (ok : Able M) (s : Shadow) (exact : Exact M s) (page : ℕ) where
   pub lost-entry : (w : Path) → tableCount M ≤ w .table → nextEntry M (s .pool) page w ≡ 0
-  lost-entry w h = ok .past (s .pool) (exact .words) (w .table) (index (M .tables) page (w .level)) h
+  lost-entry w h = ok .past (s .pool) (exact .words) (w .table) (index (M .tables) page (w .level)) (index-small (M .tables) page (w .level)) h
 
   -- WHERE A PATH STANDS ON NONE IT STAYS ON NONE
   pub lost-stays : (n : ℕ) (w : Path) → tableCount M ≤ w .table → tableCount M ≤ descend M (s .pool) page n w .table
@@ -174,7 +174,7 @@ module _ (M : Machine) (ok : Able M) (s s′ : Shadow) (exact′ : Exact M s′)
       go (no none) = inr (lost-entry M ok s′ exact′ page w (omega arith))
 
   abbrev past : (t : ℕ) → tableCount M ≤ t → (i : ℕ) → i < entryCount M → ent M s′ t i ≡ 0
-  past t h i hi = ok .past (s′ .pool) (exact′ .words) t i h
+  past t h i hi = ok .past (s′ .pool) (exact′ .words) t i hi h
 
   -- WHERE ENTRIES BECOME 0, A PATH STAYS OR STANDS ON NONE
   pub less-path : (n : ℕ) (w : Path) → (descend M (s′ .pool) page n w ≡ descend M (s .pool) page n w) ⊎ (tableCount M ≤ descend M (s′ .pool) page n w .table)

@@ -7,18 +7,11 @@ use Prim.Native.Nat.{ℕ, _+_, _*_, _^_, _≤_, _<_}
 use native.Mathlib.Omega.{arith}
 use lib.Dec.{eqb}
 use lib.ListN.{length, getD}
-use Rattle.paging.specs.Layout.{Layout, frameWords, bit, compose, rightsOf}
-use Rattle.paging.specs.Sound.{Sound}
-use Rattle.paging.proofs.Layouts.{get-past}
+use Rattle.paging.specs.Layout.{frameWords, bit, compose, rightsOf}
+use Rattle.paging.specs.Sound.{Sound, Laid}
+use Rattle.paging.proofs.Layouts.{get-past, above}
 use Rattle.tables.specs.State.{Machine, Shadow, recordSize, levelOf, shadows, tableCount, ownerOf, entryCount, entryOf, named}
 use Rattle.lawful.specs.Rules.{isLeaf, isBranch, isRoot}
-
--- what is asked of a layout, for a machine's tables
-pub record Laid (Y : Layout) : Type 0 where
-  pub sound : Sound Y
-  pub upper : 1 < Y .levels
-  pub fits : (r d f : ℕ) → r < 8 → d < 2 → f < 2 ^ Y .frameBits → compose Y r d f < 2 ^ Y .entryBits
-  pub grants : (e : ℕ) → Y .nxAlone ≡ 0 → bit (rightsOf Y e) 2 ≡ 1
 
 -- what is asked of the machine: a sound layout, tables in every share, entries that fit, a pool within the frames
 pub record Able (M : Machine) : Type 0 where
@@ -30,7 +23,7 @@ pub record Able (M : Machine) : Type 0 where
   -- where there is no NX, X is always granted
   pub grants : (e : ℕ) → M .tables .nxAlone ≡ 0 → bit (rightsOf (M .tables) e) 2 ≡ 1
   -- past the last table stand zeros
-  pub past : (pool : List ℕ) → length pool ≡ frameWords * tableCount M → (t i : ℕ) → tableCount M ≤ t → entryOf M pool t i ≡ 0
+  pub past : (pool : List ℕ) → length pool ≡ frameWords * tableCount M → (t i : ℕ) → i < entryCount M → tableCount M ≤ t → entryOf M pool t i ≡ 0
 
 -- a machine whose tables are laid so, with tables in every share and a pool within the frames
 pub able : (M : Machine) → Laid (M .tables) → 0 < M .share → M .base + tableCount M ≤ 2 ^ M .tables .frameBits → Able M
@@ -41,7 +34,7 @@ able M laid some room = record {
   room = room;
   fits = laid .fits;
   grants = laid .grants;
-  past = λ pool e t i h. get-past (M .tables) (laid .sound) pool t i (omega (arith, laid .sound .above t (tableCount M) i h, e));
+  past = λ pool e t i hi h. get-past (M .tables) (laid .sound) pool t i (omega (arith, above (M .tables) (laid .sound) t (tableCount M) i hi h, e));
 }
 
 -- no map frame lies in the pool

@@ -105,7 +105,7 @@ module _ (M : Machine) (ok : Able M) (map : List ℕ) (outside : Outside M map) 
   bare-hung k hk = other u k hk (λ q e. omega (arith, ap (lev M s) q)) ∙ trees .free u hu free .1 k hk
 
   bare-none : Bare (tableCount M)
-  bare-none k hk = ok .past (s′ .pool) (entry-exact M ok s (trees .exact) t i made ht hi (made-small M ok r u hr hu) .words) (tableCount M) k (omega arith)
+  bare-none k hk = ok .past (s′ .pool) (entry-exact M ok s (trees .exact) t i made ht hi (made-small M ok r u hr hu) .words) (tableCount M) k hk (omega arith)
 
   module _ (page p : ℕ) (hp : p < M .processors) where
     abbrev on : ℕ → Path

@@ -5,20 +5,20 @@ use Prim.Native.Nat.{ℕ, _+_, _^_, _≤_, _<_}
 use native.Mathlib.Omega.{arith}
 use lib.ListN.{length, length-append}
 use borrow.Author.Needs.{needs}
-use Rattle.cursor.specs.Text.{digitsOf}
-use Rattle.render.specs.Render.{numbers, renderEvent}
+use Rattle.cursor.specs.Text.{digitsOf, spaced}
+use Rattle.render.specs.Render.{renderEvent}
 use Rattle.render.specs.WrittenCode.{Out, outOf}
 use Rattle.render.proofs.Writes.{written-at}
 use Rattle.render.proofs.Digits.{digits-small, length-word}
 use Rattle.render.proofs.put_event.Statement.{statement}
 use Rattle.render.proofs.put_event.Tie as tie
 
-length-number : (n : ℕ) (ns : List ℕ) → length (numbers (n ∷ ns)) ≡ 1 + length (digitsOf n) + length (numbers ns)
-unfolding numbers
-length-number n ns = omega (arith, length-append (digitsOf n) (numbers ns))
+length-number : (n : ℕ) (ns : List ℕ) → length (spaced (n ∷ ns)) ≡ 1 + length (digitsOf n) + length (spaced ns)
+unfolding spaced
+length-number n ns = omega (arith, length-append (digitsOf n) (spaced ns))
 
 length-event : (index kind value : ℕ) → index < 2 ^ 64 → kind < 10 → value < 2 ^ 64 → length (renderEvent index kind value) ≤ 46
-unfolding numbers
+unfolding spaced
 length-event index kind value hi hk hv =
     omega (arith, length-number index (kind ∷ value ∷ []), length-number kind (value ∷ []), length-number value [], length-word index hi, ap length (digits-small kind hk), length-word value hv)
 

@@ -4,7 +4,7 @@ use mathlib.Core.List.{List}
 use Prim.Native.Nat.{ℕ, _+_, _-_, _*_, _≤_}
 use native.Mathlib.Omega.{arith}
 use lib.ListN.{length, drop, length-set}
-use Rattle.render.specs.Render.{numbers}
+use Rattle.cursor.specs.Text.{spaced}
 use Rattle.render.specs.WrittenCode.{outOf, written}
 use Rattle.render.proofs.Writes.{written-one}
 use Rattle.render.proofs.Lines.{written-first, number-more, number-end}
@@ -14,7 +14,7 @@ use Rattle.render.proofs.put_line.Tie as tie
 abbrev Inv-loop : tie.InvT-loop
 Inv-loop out₀ at letter ns end₀ i₀ out end i =
     (i ≤ length ns) × (length out ≡ length out₀) × (end ≤ end₀ + 21 * i)
-    × (written (numbers (drop i ns)) (outOf end out) ≡ written (numbers ns) (outOf end₀ out₀))
+    × (written (spaced (drop i ns)) (outOf end out) ≡ written (spaced ns) (outOf end₀ out₀))
 
 abbrev μ-loop : tie.MeasureT-loop
 μ-loop out₀ at letter ns end₀ i₀ out end i = length ns - i
@@ -42,7 +42,7 @@ returns c =
       written-one 10 (outOf (l .end) (l .out))
           ∙ ap (λ (bs : List ℕ). written bs (outOf (l .end) (l .out))) (sym (number-end (a .ns .now) (l .i) (omega arith)))
           ∙ l .inv .3
-          ∙ written-first (a .letter) (numbers (a .ns .now)) (a .at) (a .out .now),
+          ∙ written-first (a .letter) (spaced (a .ns .now)) (a .at) (a .out .now),
       omega arith,
     )
 
