@@ -9,8 +9,11 @@ use Rattle.paging.specs.Numbers.{each}
 use Rattle.rules.specs.History.{eventAt}
 use Rattle.rules.specs.Numbers.{eventsOf}
 use Rattle.tables.specs.declared.Sizes.{Sizes}
-use Rattle.tables.specs.State.{Machine, machine64, shadowOf, State, stateOf, slotCount, Sized}
-use Rattle.shadow.specs.After.{after, started, setupRefusal}
+use Rattle.tables.specs.State.{Machine, machine64, shadowOf, State, stateOf, Sized}
+use Rattle.slots.specs.Slots.{slotCount}
+use Rattle.shadow.specs.After.{after}
+use Rattle.shadow.specs.Setup.{started}
+use Rattle.shadow.specs.Refusals.{setupRefusal}
 use Rattle.shadow.proofs.Starting.{accepted-sizes, setup-sized}
 use Rattle.shadow.specs.Runs.{stateAfter, answerOf}
 use Rattle.sections.specs.Sections.{got, Puzzle}

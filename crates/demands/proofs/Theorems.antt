@@ -20,7 +20,10 @@ use Rattle.tables.specs.State.{State, machine64}
 use Rattle.lawful.specs.Rules.{lawful}
 use Rattle.shadow.specs.declared.Answer.{Answer}
 use Rattle.shadow.specs.declared.Answer.the-variants.{Address, Again, Refused}
-use Rattle.shadow.specs.After.{gives, callRefusal, after, setupRefusal, afterSetup, started}
+use Rattle.shadow.specs.Answer.{gives}
+use Rattle.shadow.specs.Refusals.{callRefusal, setupRefusal}
+use Rattle.shadow.specs.After.{after}
+use Rattle.shadow.specs.Setup.{afterSetup, started}
 use Rattle.shadow.specs.Runs.{answerOf}
 use Rattle.shadow.proofs.Theorems as shadow
 use Rattle.trees.proofs.Entries.{laid64}

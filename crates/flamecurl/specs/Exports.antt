@@ -11,7 +11,9 @@ use Rattle.listing.specs.declared.Listed.{Listed}
 use Rattle.listing.specs.Call.{Asked, Lent, ListCall}
 use Rattle.listing.specs.Call as listing
 use Rattle.shadow.specs.declared.Answer.{Answer}
-use Rattle.shadow.specs.After.{gives, after, afterSetup}
+use Rattle.shadow.specs.Answer.{gives}
+use Rattle.shadow.specs.After.{after}
+use Rattle.shadow.specs.Setup.{afterSetup}
 use Rattle.shadow.specs.After as shadow
 use Rattle.puzzle.specs.declared.ReadResult.{ReadResult}
 use Rattle.puzzle.specs.declared.ReadResult.the-variants.{Accepted, Refused}

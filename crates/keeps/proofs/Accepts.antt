@@ -11,7 +11,7 @@ use Rattle.rules.specs.declared.Event.{Event}
 use Rattle.rules.specs.Refusal.{test, refusal}
 use Rattle.rules.specs.History.{eventRefusal}
 use Rattle.tables.specs.State.{Machine, State, tableCount}
-use Rattle.shadow.specs.After.{asSetup, rangesFit, lengthsFit, framesFit, callRefusal}
+use Rattle.shadow.specs.Refusals.{asSetup, rangesFit, lengthsFit, framesFit, callRefusal}
 use Rattle.shadow.proofs.Sizing.{Ranged}
 use Rattle.shadow.proofs.Accepted.{call-accepted}
 use Rattle.trees.proofs.Trees.{Able}

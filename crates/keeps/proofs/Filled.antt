@@ -9,10 +9,11 @@ use lib.Dec.{ltb}
 use lib.ListN.{length}
 use borrow.Author.Tests.{ltb-false}
 use Rattle.paging.specs.declared.Guest.{Guest}
-use Rattle.tables.specs.State.{Machine, State, stateOf, slotCount, markOf, shadows, rootOf}
-use Rattle.tables.specs.Steps.{Settled, settle, build, freeCount, emptyShare, flush, emptySlots}
-use Rattle.tables.proofs.Counts.{by-cases}
-use Rattle.shadow.specs.After.{fill}
+use Rattle.tables.specs.State.{Machine, State, stateOf, shadows, rootOf}
+use Rattle.slots.specs.Slots.{slotCount, markOf, flush, emptySlots}
+use Rattle.tables.specs.Steps.{Settled, settle, build, freeCount, emptyShare}
+use Rattle.paging.proofs.Counts.{by-cases}
+use Rattle.shadow.specs.Fill.{fill}
 use Rattle.shadow.proofs.Shares.{enough-free}
 use Rattle.trees.proofs.Trees.{Able}
 use Rattle.trees.proofs.Settles.{Leads}

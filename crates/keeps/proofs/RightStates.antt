@@ -7,8 +7,9 @@ use Prim.Native.Nat.{ℕ, _-_, _*_, _^_, _≤_, _<_}
 use native.Mathlib.Decide.{ℕ-discrete}
 use native.Mathlib.Omega.{arith}
 use lib.ListN.{length, getD}
-use Rattle.tables.specs.State.{Machine, State, stateOf, slotCount, markOf, pageIn, tableCount, ownerOf}
-use Rattle.tables.proofs.Counts.{by-cases}
+use Rattle.tables.specs.State.{Machine, State, stateOf, tableCount, ownerOf}
+use Rattle.slots.specs.Slots.{slotCount, markOf, pageIn}
+use Rattle.paging.proofs.Counts.{by-cases}
 use Rattle.lawful.specs.Rules.{slotRight}
 use Rattle.trees.proofs.Trees.{Able, Outside, Exact, Trees, Same}
 use Rattle.trees.proofs.Rules.{Lawful}

@@ -12,10 +12,11 @@ use borrow.Author.Tests.{ltb-true, ltb-false}
 use Rattle.paging.specs.Frame.{guest}
 use Rattle.paging.specs.Layout.{index, pageOf, isPresent}
 use Rattle.paging.proofs.Indices.{index-small}
-use Rattle.tables.specs.State.{Machine, Shadow, onPool, onRecords, State, slotCount, markOf, withRecord, tableCount, ownerOf, rootOf, entryCount, withEntry, nextEntry, pathTo}
-use Rattle.tables.specs.Steps.{flush, emptyShare}
-use Rattle.tables.proofs.Counts.{by-cases}
-use Rattle.shadow.specs.After.{leafCleared, afterInvlpg, afterCr3}
+use Rattle.tables.specs.State.{Machine, Shadow, onPool, onRecords, State, withRecord, tableCount, ownerOf, rootOf, entryCount, withEntry, nextEntry, pathTo}
+use Rattle.slots.specs.Slots.{slotCount, markOf, flush}
+use Rattle.tables.specs.Steps.{emptyShare}
+use Rattle.paging.proofs.Counts.{by-cases}
+use Rattle.shadow.specs.Moves.{leafCleared, afterInvlpg, afterCr3}
 use Rattle.trees.proofs.Trees.{Able, Outside, ent, lev, shd, Trees, Less, Same}
 use Rattle.trees.proofs.Leaves.{leaf-entry, leaf-beside, leaf-trees}
 use Rattle.trees.proofs.Roots.{root-owner}

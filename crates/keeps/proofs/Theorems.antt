@@ -10,11 +10,14 @@ use Rattle.paging.specs.Layout.{frameWords, pageOf}
 use Rattle.paging.specs.Request.{requestOf}
 use Rattle.rules.specs.declared.Event.{Event}
 use Rattle.tables.specs.State.{Machine, State}
-use Rattle.tables.proofs.Counts.{by-cases}
+use Rattle.paging.proofs.Counts.{by-cases}
 use Rattle.lawful.specs.Rules.{lawful}
 use Rattle.rules.specs.History.{eventRefusal}
 use Rattle.shadow.specs.declared.Answer.the-variants.{Done, Address, Again, Refused}
-use Rattle.shadow.specs.After.{Result, asSetup, callRefusal, after, afterInvlpg, afterCr3, afterBegin, afterDrop}
+use Rattle.shadow.specs.Answer.{Result}
+use Rattle.shadow.specs.Refusals.{asSetup, callRefusal}
+use Rattle.shadow.specs.After.{after}
+use Rattle.shadow.specs.Moves.{afterInvlpg, afterCr3, afterBegin, afterDrop}
 use Rattle.shadow.proofs.Accepted.{accepted-ranged, accepted-own, accepted-words, accepted-frames, accepted-event}
 use Rattle.trees.proofs.Trees.{Laid, Able}
 use Rattle.trees.proofs.Rules.{lawful-is}

@@ -1,5 +1,7 @@
 pub mod Tests
 pub mod Numbers
+pub mod Counts
+pub mod Copies
 pub mod Finite
 pub mod Bits
 pub mod Rights

@@ -15,11 +15,15 @@ use Rattle.rules.specs.View.{viewOf}
 use Rattle.rules.specs.Coherent.{Coherent}
 use Rattle.rules.specs.Kept.{Kept, begin}
 use Rattle.rules.proofs.Theorems.{view-coherent}
-use Rattle.tables.specs.declared.Walked.{Walked}
-use Rattle.tables.specs.declared.Walked.the-variants.{Whole}
-use Rattle.tables.specs.State.{Machine, State, slotCount, pageIn, rootOf}
-use Rattle.tables.proofs.Counts.{by-cases}
-use Rattle.shadow.specs.After.{Result, fill, afterAccess, callRefusal}
+use Rattle.guest.specs.declared.Walked.{Walked}
+use Rattle.guest.specs.declared.Walked.the-variants.{Whole}
+use Rattle.tables.specs.State.{Machine, State, rootOf}
+use Rattle.slots.specs.Slots.{slotCount, pageIn}
+use Rattle.paging.proofs.Counts.{by-cases}
+use Rattle.shadow.specs.Answer.{Result}
+use Rattle.shadow.specs.Fill.{fill}
+use Rattle.shadow.specs.Access.{afterAccess}
+use Rattle.shadow.specs.Refusals.{callRefusal}
 use Rattle.shadow.proofs.Accepted.{accepted-ranged}
 use Rattle.trees.proofs.Trees.{Able, shd}
 use Rattle.trees.proofs.Roots.{root-table, root-owner}

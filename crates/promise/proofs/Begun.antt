@@ -11,9 +11,10 @@ use borrow.Author.Tests.{eq-eqb, ne-eqb}
 use Rattle.paging.specs.Frame.{guest}
 use Rattle.paging.specs.Layout.{frameWords, get}
 use Rattle.paging.specs.Numbers.{each}
-use Rattle.tables.specs.State.{Machine, Shadow, shadowOf, onRecords, State, withRecord, markOf, pageIn, placeIn, rightsIn, slotAt, tableCount, ownerOf, rootOf}
+use Rattle.tables.specs.State.{Machine, Shadow, shadowOf, onRecords, State, withRecord, tableCount, ownerOf, rootOf}
+use Rattle.slots.specs.Slots.{markOf, pageIn, placeIn, rightsIn, slotAt}
 use Rattle.lawful.specs.Rules.{isRoot}
-use Rattle.shadow.specs.After.{rooted, started}
+use Rattle.shadow.specs.Setup.{rooted, started}
 use Rattle.trees.proofs.Trees.{Able, Exact, ent, lev, shd, Names, Trees}
 use Rattle.trees.proofs.Entries.{level-here, frame-here, level-other, frame-other, record-exact, zero-names-none}
 use Rattle.trees.proofs.Hangs.{by-table}

@@ -11,8 +11,11 @@ use Rattle.paging.specs.Request.{enough}
 use Rattle.paging.specs.Walk.{meet}
 use Rattle.rules.specs.declared.Event.{Event}
 use Rattle.tables.specs.State.{Machine, Shadow, State, tableCount, ownerOf, nextEntry, pathTo}
-use Rattle.tables.proofs.Counts.{by-cases}
-use Rattle.shadow.specs.After.{Result, callRefusal, after, afterBegin, afterDrop}
+use Rattle.paging.proofs.Counts.{by-cases}
+use Rattle.shadow.specs.Answer.{Result}
+use Rattle.shadow.specs.Refusals.{callRefusal}
+use Rattle.shadow.specs.After.{after}
+use Rattle.shadow.specs.Moves.{afterBegin, afterDrop}
 use Rattle.shadow.proofs.Accepted.{accepted-ranged, accepted-own}
 use Rattle.trees.proofs.Trees.{Laid, Able, Same, Trees}
 use Rattle.trees.proofs.Paths.{same-path, same-entry}

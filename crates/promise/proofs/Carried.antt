@@ -5,7 +5,9 @@ use Prim.Native.Nat.{ℕ, suc}
 use Rattle.rules.specs.declared.Event.{Event}
 use Rattle.rules.specs.History.{eventAt}
 use Rattle.tables.specs.State.{State}
-use Rattle.shadow.specs.After.{Result, callRefusal, after}
+use Rattle.shadow.specs.Answer.{Result}
+use Rattle.shadow.specs.Refusals.{callRefusal}
+use Rattle.shadow.specs.After.{after}
 use Rattle.keeps.proofs.Events.{Kind, store, invlpg, cr3, access, begin, extend, drop, kinds}
 use Rattle.keeps.proofs.Theorems.{right-after, words-after}
 use Rattle.promise.specs.Demand.{Fresh}

@@ -10,10 +10,11 @@ use Rattle.paging.specs.declared.Guest.{Guest}
 use Rattle.paging.specs.Layout.{frameWords, pageOf}
 use Rattle.rules.specs.declared.Event.{Event}
 use Rattle.rules.specs.History.{eventAt, wordsAt, cr3At}
-use Rattle.tables.specs.State.{Machine, Shadow, State, stateOf, slotCount, markOf, pageIn, rootOf, nextEntry, pathTo}
-use Rattle.tables.specs.Steps.{emptySlots}
-use Rattle.tables.proofs.Counts.{by-cases}
-use Rattle.shadow.specs.After.{callRefusal, afterStore, afterInvlpg, afterCr3, afterBegin, afterDrop}
+use Rattle.tables.specs.State.{Machine, Shadow, State, stateOf, rootOf, nextEntry, pathTo}
+use Rattle.slots.specs.Slots.{slotCount, markOf, pageIn, emptySlots}
+use Rattle.paging.proofs.Counts.{by-cases}
+use Rattle.shadow.specs.Refusals.{callRefusal}
+use Rattle.shadow.specs.Moves.{afterStore, afterInvlpg, afterCr3, afterBegin, afterDrop}
 use Rattle.shadow.proofs.Accepted.{accepted-own}
 use Rattle.trees.proofs.Trees.{Able, shd}
 use Rattle.trees.proofs.Paths.{less-full}

@@ -14,9 +14,11 @@ use Rattle.paging.proofs.Rights.{meet-small}
 use Rattle.rules.specs.declared.Event.{Event}
 use Rattle.rules.specs.History.{eventAt}
 use Rattle.rules.specs.View.{View}
-use Rattle.tables.specs.State.{Machine, State, stateOf, markOf, pageIn, placeIn, rightsIn, withSlot, nextEntry, pathTo}
-use Rattle.tables.proofs.Counts.{by-cases}
-use Rattle.shadow.specs.After.{afterExtend, callRefusal}
+use Rattle.tables.specs.State.{Machine, State, stateOf, nextEntry, pathTo}
+use Rattle.slots.specs.Slots.{markOf, pageIn, placeIn, rightsIn, withSlot}
+use Rattle.paging.proofs.Counts.{by-cases}
+use Rattle.shadow.specs.Moves.{afterExtend}
+use Rattle.shadow.specs.Refusals.{callRefusal}
 use Rattle.shadow.proofs.Accepted.{accepted-map}
 use Rattle.trees.proofs.Trees.{Able}
 use Rattle.trees.proofs.Slots.{Room, with-other, with-mark, with-page, with-place, with-rights}

@@ -16,7 +16,8 @@ use Rattle.rules.specs.History.{Setup, isInvlpg, isCr3Write, isBy, eventAt, wor
 use Rattle.rules.specs.View.{View, viewOf, endsCompleteOf}
 use Rattle.rules.specs.Kept.{stay}
 use Rattle.tables.specs.declared.Path.{Path}
-use Rattle.tables.specs.State.{Machine, State, slotCount, markOf, pageIn, placeIn, rightsIn, rootOf, nextEntry, pathTo}
+use Rattle.tables.specs.State.{Machine, State, rootOf, nextEntry, pathTo}
+use Rattle.slots.specs.Slots.{slotCount, markOf, pageIn, placeIn, rightsIn}
 use Rattle.trees.proofs.Trees.{Laid, shd}
 use Rattle.trees.proofs.Paths.{FullSame}
 use Rattle.trees.proofs.Slots.{SameSlot}

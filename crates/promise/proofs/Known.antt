@@ -19,7 +19,9 @@ use Rattle.shadow.specs.declared.Answer.{Answer}
 use Rattle.shadow.specs.declared.Answer.the-variants.{Done, Address, Again}
 use Rattle.paging.specs.Frame.{mapFits, cr3sFit}
 use Rattle.paging.proofs.Tests.{both}
-use Rattle.shadow.specs.After.{Result, rangesFit, lengthsFit, poolFits, inPool, framesFit, rooted, setupRefusal}
+use Rattle.shadow.specs.Answer.{Result}
+use Rattle.shadow.specs.Refusals.{rangesFit, lengthsFit, poolFits, inPool, framesFit, setupRefusal}
+use Rattle.shadow.specs.Setup.{rooted}
 use Rattle.trees.proofs.Trees.{Laid}
 use Rattle.trees.proofs.Entries.{laid64}
 use Rattle.keeps.proofs.Events as events

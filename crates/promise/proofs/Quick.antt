@@ -9,9 +9,16 @@ use Rattle.paging.specs.Walk.{meet, step}
 use Rattle.paging.specs.Request.{requestOf, enough}
 use Rattle.rules.specs.History.{eventAt}
 use Rattle.tables.specs.State.{State, named, descend}
-use Rattle.tables.specs.Steps.{servingSlot, flush, flushed, walkFrom, leafOf, freeCount, taken, settle, build, freeTable}
+use Rattle.slots.specs.Slots.{servingSlot, flush, flushed}
+use Rattle.guest.specs.GuestWalk.{walkFrom, dirtied}
+use Rattle.tables.specs.Steps.{leafOf, freeCount, taken, settle, build, freeTable}
 use Rattle.shadow.specs.declared.Answer.{Answer}
-use Rattle.shadow.specs.After.{Result, decode, moved, dirtied, leafCleared, afterInvlpg, fill, afterMiss, afterAccess, rooted}
+use Rattle.shadow.specs.Answer.{Result}
+use Rattle.shadow.specs.Moves.{decode, leafCleared, afterInvlpg}
+use Rattle.shadow.specs.After.{moved}
+use Rattle.shadow.specs.Fill.{fill}
+use Rattle.shadow.specs.Access.{afterMiss, afterAccess}
+use Rattle.shadow.specs.Setup.{rooted}
 use Rattle.promise.specs.Demand as D
 use Rattle.promise.specs.Demand.{Fresh, losing}
 use Rattle.promise.specs.Known.{KnownRun, stored, narrowed}

@@ -7,7 +7,7 @@ use lib.Dec.{eqb}
 use lib.ListN.{length}
 use Rattle.rules.specs.History.{Fit, eventAt, wordsAt, cr3At}
 use Rattle.tables.specs.State.{Machine, State}
-use Rattle.shadow.specs.After.{rangesFit, lengthsFit, framesFit, callRefusal}
+use Rattle.shadow.specs.Refusals.{rangesFit, lengthsFit, framesFit, callRefusal}
 use Rattle.shadow.proofs.Sizing.{Ranged}
 use Rattle.shadow.proofs.Starting.{accepted-sizes, setup-exact, setup-ranged, setup-room}
 use Rattle.trees.proofs.Trees.{Laid, Able, able}

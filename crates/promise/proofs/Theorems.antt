@@ -11,7 +11,7 @@ use Rattle.paging.specs.Request.{requestOf}
 use Rattle.rules.specs.declared.Event.{Event}
 use Rattle.rules.specs.History.{Fit, eventAt}
 use Rattle.tables.specs.State.{State}
-use Rattle.tables.proofs.Counts.{by-cases}
+use Rattle.paging.proofs.Counts.{by-cases}
 use Rattle.shadow.specs.declared.Answer.the-variants.{Address, Again}
 use Rattle.shadow.specs.After.{after}
 use Rattle.shadow.proofs.Accepted.{accepted-own}

@@ -15,7 +15,11 @@ use Rattle.rules.specs.History.{eventTests}
 use Rattle.tables.specs.State.{Machine, State}
 use Rattle.lawful.specs.Rules.{lawful}
 use Rattle.shadow.specs.declared.Answer.{Answer}
-use Rattle.shadow.specs.After.{Result, gives, after, afterSetup, afterStore, asSetup, rangesFit, lengthsFit, framesFit, tooFew, callRefusal}
+use Rattle.shadow.specs.Answer.{Result, gives}
+use Rattle.shadow.specs.After.{after}
+use Rattle.shadow.specs.Setup.{afterSetup}
+use Rattle.shadow.specs.Moves.{afterStore}
+use Rattle.shadow.specs.Refusals.{asSetup, rangesFit, lengthsFit, framesFit, tooFew, callRefusal}
 use Rattle.shadow.proofs.Sizing.{Ranged, ranged}
 
 -- ---- ANY TWO RESULTS THAT A PROMISE ALLOWS ARE EQUAL

@@ -1,7 +1,5 @@
 pub mod Names
 pub mod Paths
-pub mod Counts
 pub mod Frees
 pub mod Fills
 pub mod Takes
-pub mod Walks

@@ -11,7 +11,7 @@ use Rattle.rules.specs.History.{setup64, eventAt, eventRefusal, Fit}
 use Rattle.rules.specs.Numbers.{eventsOf, questionOf}
 use Rattle.listing.proofs.Accepts.{event-at, events-length}
 use Rattle.tables.specs.State.{machine64, State}
-use Rattle.shadow.specs.After.{asSetup}
+use Rattle.shadow.specs.Refusals.{asSetup}
 use Rattle.sections.specs.Sections.{Got, got, refused, Puzzle, puzzleOf}
 use Rattle.puzzle.specs.Buffers.{Buffers, wordsOf}
 use Rattle.puzzle.proofs.Accepted.{accepted}

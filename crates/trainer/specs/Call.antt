@@ -5,6 +5,7 @@ use mathlib.Core.List.{List, [], _++_}
 use Prim.Native.Nat.{ℕ, zero, suc, _≤_}
 use lib.Dec.{leb}
 use lib.ListN.{length, drop}
+use Rattle.sections.specs.Sizes.{textSize}
 use Rattle.sections.specs.Sections.{Got, got, refused, Puzzle, puzzleOf}
 use Rattle.puzzle.specs.Buffers.{Buffers, buffers, wordsOf}
 use Rattle.render.specs.Render.{renderRefusal}
@@ -22,11 +23,15 @@ posed z = buffers (z .map) (z .cr3s) (wordsOf z) (z .events) (z .questions)
 
 -- "Text is refused with 1 (over-long, line 0) first": the programs take 65,536 bytes
 abbrev pub puzzleIn : List ℕ → Got Puzzle
-puzzleIn text = cond (leb (length text) 65536) (puzzleOf text) (refused 1 0)
+puzzleIn text = cond (leb (length text) textSize) (puzzleOf text) (refused 1 0)
 
 -- what a program prints of the lists of a puzzle
 abbrev pub Lines : Type 1
 Lines = Buffers → List ℕ → Type 0
+
+-- room for every output
+abbrev pub outputSize : ℕ
+outputSize = 16384
 
 module _ (Of : Lines) where
   -- "on refusal both print `R number line` and nothing else"
@@ -42,7 +47,7 @@ module _ (Of : Lines) where
     pub counted : r ≡ Bytes (length bytes)
     pub holds : after ≡ bytes ++ drop (length bytes) before
 
-  -- a buffer of 16,384 bytes takes every output; one of another length is refused with 1
+  -- a buffer of this size takes every output; one of another length is refused with 1
   pub record Call (text before : List ℕ) (r : Written) (after : List ℕ) : Type 0 where
-    pub refused : (length before ≡ 16384 → ⊥) → (r ≡ Refused 1) × (after ≡ before)
-    pub printed : length before ≡ 16384 → Printed text before r after
+    pub refused : (length before ≡ outputSize → ⊥) → (r ≡ Refused 1) × (after ≡ before)
+    pub printed : length before ≡ outputSize → Printed text before r after

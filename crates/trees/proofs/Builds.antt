@@ -16,7 +16,8 @@ use Rattle.paging.proofs.Indices.{index-small}
 use Rattle.paging.proofs.Rights.{rights-small}
 use Rattle.tables.specs.declared.Path.{Path}
 use Rattle.tables.specs.State.{Machine, Shadow, onPool, isFree, tableCount, ownerOf, rootOf, owns, entryCount, withEntry, named, top, nextEntry, descend, pathTo}
-use Rattle.tables.specs.Steps.{Settled, spot, guestEntry, leafOf, settle, hang, build, taken, mayTake, freeCount, emptyShare}
+use Rattle.tables.specs.Steps.{Settled, spot, leafOf, settle, hang, build, taken, mayTake, freeCount, emptyShare}
+use Rattle.guest.specs.GuestWalk.{guestEntry}
 use Rattle.tables.proofs.Takes.{taken-table, hang-count}
 use Rattle.trees.proofs.Trees.{Able, Outside, ent, lev, shd, Trees, Less}
 use Rattle.trees.proofs.Entries.{made-names, made-rights}

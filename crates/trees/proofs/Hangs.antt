@@ -13,7 +13,7 @@ use Rattle.paging.specs.Layout.{bit, compose}
 use Rattle.tables.specs.State.{Machine, Shadow, onPool, tableCount, ownerOf, entryCount, withEntry, named}
 use Rattle.tables.specs.Steps.{hang}
 use Rattle.lawful.specs.Rules.{isMadeWith, isLeaf, isBranch, isRoot}
-use Rattle.trees.proofs.Trees.{Able, Outside, Exact, ent, lev, shd, Names, Branch, Trees, Same}
+use Rattle.trees.proofs.Trees.{Able, Outside, Exact, ent, lev, shd, Names, Branch, Trees}
 use Rattle.trees.proofs.Entries.{entry-here, entry-other, entry-exact, level-here, frame-here, level-other, frame-other, record-exact, zero-names-none, made-frame, made-names, made-small, made-rights, names-by}
 use Rattle.trees.proofs.Falls.{live}
 
@@ -60,13 +60,6 @@ module _ (M : Machine) (ok : Able M) (map : List ℕ) (outside : Outside M map) 
     level-other M ok (onPool (withEntry M t i made) s) laid u l g new v ne,
     frame-other M ok (onPool (withEntry M t i made) s) laid u l g new v ne,
   )
-
-  pub hang-same : (v : ℕ) → (v ≡ t → ⊥) → (v ≡ u → ⊥) → Same M s s′ v
-  hang-same v nt nu = record {
-    entries = λ k h. hang-beside v k h (λ p q. nt p);
-    level = hang-others v nu .0;
-    frame = hang-others v nu .1;
-  }
 
   -- ---- who is named
 

@@ -17,7 +17,8 @@ use Rattle.paging.proofs.Tests.{both}
 use Rattle.paging.proofs.Indices.{index-small}
 use Rattle.tables.specs.declared.Path.{Path}
 use Rattle.tables.specs.State.{Machine, Shadow, tableCount, ownerOf, rootOf, entryCount, named, top, nextEntry, down, descend}
-use Rattle.tables.specs.Steps.{Settled, settledAt, spot, cut, guestEntry, agrees, settle}
+use Rattle.tables.specs.Steps.{Settled, settledAt, spot, cut, agrees, settle}
+use Rattle.guest.specs.GuestWalk.{guestEntry}
 use Rattle.trees.proofs.Trees.{Able, Outside, ent, lev, shd, Trees, Less, Same}
 use Rattle.trees.proofs.Roots.{root-table, root-level}
 use Rattle.trees.proofs.Cuts.{cut-trees, cut-less, cut-gone, cut-record, cut-upper, cut-level, cut-others}
