@@ -21,7 +21,11 @@ use Rattle.tables.specs.Steps.{freeCount, emptyShare}
 use Rattle.lawful.specs.Rules.{lawful}
 use Rattle.shadow.specs.declared.Answer.{Answer}
 use Rattle.shadow.specs.declared.Answer.the-variants.{Done, Address, Fault, Again, NoStep, Refused}
-use Rattle.shadow.specs.After.{Result, refusalOf, kindOf, callRefusal, after, decode, moved, setupRefusal, started}
+use Rattle.shadow.specs.After.{after, moved}
+use Rattle.shadow.specs.Answer.{Result, refusalOf, kindOf}
+use Rattle.shadow.specs.Refusals.{callRefusal, setupRefusal}
+use Rattle.shadow.specs.Moves.{decode}
+use Rattle.shadow.specs.Setup.{started}
 use Rattle.shadow.proofs.Theorems.{never-twelve, setup-below-twelve}
 use Rattle.shadow.proofs.Shares.{enough-free}
 use Rattle.trees.proofs.Entries.{laid64}

@@ -10,7 +10,10 @@ use Rattle.rules.specs.declared.Event.{Event}
 use Rattle.tables.specs.State.{Machine, State}
 use Rattle.shadow.specs.declared.Answer.{Answer}
 use Rattle.shadow.specs.declared.Answer.the-variants.{Done, Address, Fault, Again, NoStep, Refused}
-use Rattle.shadow.specs.After.{Result, gives, refusalOf, callRefusal, after, setupRefusal, started, afterSetup}
+use Rattle.shadow.specs.After.{after}
+use Rattle.shadow.specs.Answer.{Result, gives, refusalOf}
+use Rattle.shadow.specs.Refusals.{callRefusal, setupRefusal}
+use Rattle.shadow.specs.Setup.{started, afterSetup}
 use Rattle.keeps.proofs.Theorems.{never-refused}
 use Rattle.flamecurl.specs.Exports.{Answered, Exported}
 use Rattle.demands.specs.Refuses.{Refuses}

@@ -24,7 +24,7 @@ use Rattle.listing.proofs.Accepts.{event-at}
 use Rattle.listing.proofs.Refuses.{or-second, list-later}
 use Rattle.tables.specs.declared.Sizes.{Sizes}
 use Rattle.tables.specs.State.{machine64}
-use Rattle.shadow.specs.After.{poolFits, inPool, framesFit}
+use Rattle.shadow.specs.Refusals.{poolFits, inPool, framesFit}
 use Rattle.trainer.proofs.Puzzles.{first-all, sizes-fit}
 use Rattle.trees.proofs.Entries.{laid64}
 use Rattle.promise.proofs.Started.{ranges}

@@ -13,7 +13,10 @@ use Rattle.rules.specs.History.{Fit, eventAt, eventRefusal, wordsAt}
 use Rattle.tables.specs.declared.Sizes.{Sizes}
 use Rattle.tables.specs.State.{Machine, State, stateOf, machine64}
 use Rattle.shadow.specs.declared.Answer.{Answer}
-use Rattle.shadow.specs.After.{Result, gives, refusalOf, callRefusal, after, setupRefusal, started, afterSetup}
+use Rattle.shadow.specs.After.{after}
+use Rattle.shadow.specs.Answer.{Result, gives, refusalOf}
+use Rattle.shadow.specs.Refusals.{callRefusal, setupRefusal}
+use Rattle.shadow.specs.Setup.{started, afterSetup}
 use Rattle.shadow.proofs.Accepted.{accepted-event, accepted-words}
 use Rattle.trees.proofs.Entries.{laid64}
 use Rattle.keeps.proofs.Accepts.{same-tests, own-number}

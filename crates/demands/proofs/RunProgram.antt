@@ -9,7 +9,7 @@ use Rattle.rules.specs.History.{eventAt}
 use Rattle.rules.specs.Numbers.{eventsOf}
 use Rattle.tables.specs.declared.Sizes.{Sizes}
 use Rattle.tables.specs.State.{Machine, machine64, shadowOf, State, stateOf}
-use Rattle.shadow.specs.After.{after, started}
+use Rattle.shadow.specs.After.{after}
 use Rattle.shadow.specs.Runs.{stateAfter, answerOf}
 use Rattle.sections.specs.Sections.{Got, got, Puzzle}
 use Rattle.puzzle.specs.Buffers.{wordsOf}
@@ -19,13 +19,16 @@ use Rattle.trainer.specs.Call.{puzzleIn, Prints}
 use Rattle.trainer.specs.Run.{sizesOf, answerLine, RunOf}
 use Rattle.trainer.proofs.Turns.{joined-same}
 use Rattle.trainer.proofs.Theorems.{read, starts}
-use Rattle.promise.specs.Demand as D
 use Rattle.promise.specs.Demand.{stateAt, answerAt}
 use Rattle.flamecurl.specs.Exports.{writtenNumbers, PrintExport}
 use Rattle.demands.proofs.Setups.{setup-fits}
 use Rattle.demands.proofs.Given.{given}
 use Rattle.demands.specs.RunProgram.{machineFor, runFor, printedFor}
 use Rattle.promise.proofs.Lossless.{none-lost}
+use Rattle.slots.specs.Slots.{slotCount}
+use Rattle.shadow.specs.Setup.{started}
+use Rattle.shadow.specs.Refusals.{setupRefusal}
+use Rattle.promise.specs.Demand as D
 
 module _ (z : Puzzle) where
   abbrev M : Machine

@@ -15,7 +15,7 @@ use Rattle.rules.specs.Refusal.{test, refusal}
 use Rattle.rules.proofs.Ranges.{clear}
 use Rattle.tables.specs.declared.Sizes.{Sizes}
 use Rattle.tables.specs.State.{Machine, State, machine64, tableCount}
-use Rattle.shadow.specs.After.{rangesFit, lengthsFit, framesFit, setupRefusal}
+use Rattle.shadow.specs.Refusals.{rangesFit, lengthsFit, framesFit, setupRefusal}
 use Rattle.shadow.proofs.Starting.{accepted-sizes, setup-exact, setup-cr3s, setup-sized}
 use Rattle.trees.proofs.Entries.{able64}
 use Rattle.promise.specs.Demand as D

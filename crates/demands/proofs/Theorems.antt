@@ -19,7 +19,8 @@ use Rattle.tables.specs.State.{Shadow, State, machine64}
 use Rattle.tables.specs.Steps.{freeCount, emptyShare}
 use Rattle.lawful.specs.Rules.{lawful}
 use Rattle.shadow.specs.declared.Answer.the-variants.{Refused}
-use Rattle.shadow.specs.After.{callRefusal, decode, moved, setupRefusal, started}
+use Rattle.shadow.specs.After.{moved}
+use Rattle.shadow.specs.Moves.{decode}
 use Rattle.trees.proofs.Entries.{laid64}
 use Rattle.sections.specs.Sections.{got, Puzzle}
 use Rattle.puzzle.specs.Buffers.{Buffers}
@@ -31,6 +32,9 @@ use Rattle.flamecurl.specs.Exports.{eventNumbers, ListExport, SetupExport, Even
 use Rattle.demands.specs.Refuses.{Refuses, readNumber, readLine}
 use Rattle.demands.specs.Play.{Play, guest, EndsInTwo}
 use Rattle.demands.specs.RunProgram.{machineFor, runFor, printedFor}
+use Rattle.shadow.specs.Answer.{gives}
+use Rattle.shadow.specs.Refusals.{callRefusal, setupRefusal}
+use Rattle.shadow.specs.Setup.{afterSetup, started}
 use Rattle.shadow.proofs.Theorems as shadow
 use Rattle.trainer.proofs.Theorems as trainer
 use Rattle.promise.proofs.Theorems as promise

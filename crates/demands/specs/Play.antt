@@ -19,7 +19,7 @@ use Rattle.held.specs.Work.{workBytes}
 use Rattle.listing.specs.Call.{asked, Lent, pairs}
 use Rattle.tables.specs.declared.Sizes.{Sizes}
 use Rattle.tables.specs.State.{State, stateOf}
-use Rattle.shadow.specs.After.{valueAt}
+use Rattle.paging.specs.Frame.{hostAddress}
 use Rattle.promise.specs.Demand.{mayStandBetween}
 use Rattle.flamecurl.specs.Exports.{ListExport, SetupExport, EventExport}
 
@@ -39,7 +39,7 @@ pub record Play (z : Sizes) (map cr3s words : List ℕ) (es : List Event) : Type
 
 -- the three numbers of an answer to an access to a say an outcome: "1 address, 2 guest fault"
 pub data Says (z : Sizes) (map : List ℕ) (a : ℕ) : List ℕ → Outcome → Type 0 where
-  address : {g : Guest} → g .0 < z .frames → Says z map a (0 ∷ 1 ∷ valueAt (hostOf map g) a ∷ []) (Address g)
+  address : {g : Guest} → g .0 < z .frames → Says z map a (0 ∷ 1 ∷ hostAddress (hostOf map g) a ∷ []) (Address g)
   fault : {c : ℕ} → Says z map a (0 ∷ 2 ∷ c ∷ []) (Fault c)
 
 module _ (z : Sizes) (map cr3s words : List ℕ) (es : List Event) where

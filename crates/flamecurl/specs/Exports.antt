@@ -9,17 +9,19 @@ use Rattle.tables.specs.declared.Sizes.{Sizes}
 use Rattle.tables.specs.State.{State, machine64}
 use Rattle.listing.specs.declared.Listed.{Listed}
 use Rattle.listing.specs.Call.{Asked, Lent, ListCall}
-use Rattle.listing.specs.Call as listing
 use Rattle.shadow.specs.declared.Answer.{Answer}
-use Rattle.shadow.specs.After.{gives, after, afterSetup}
-use Rattle.shadow.specs.After as shadow
+use Rattle.shadow.specs.After.{after}
 use Rattle.puzzle.specs.declared.ReadResult.{ReadResult}
 use Rattle.puzzle.specs.declared.ReadResult.the-variants.{Accepted, Refused}
 use Rattle.puzzle.specs.Buffers.{Buffers, readCall}
-use Rattle.puzzle.specs.Buffers as puzzle
 use Rattle.trainer.specs.declared.Written.{Written}
 use Rattle.trainer.specs.declared.Written.the-variants.{Bytes, RefusedText, Refused as Unwritten}
 use Rattle.trainer.specs.Call.{Lines, Call}
+use Rattle.shadow.specs.Answer.{gives}
+use Rattle.shadow.specs.Setup.{afterSetup}
+use Rattle.listing.specs.Call as listing
+use Rattle.shadow.specs.After as shadow
+use Rattle.puzzle.specs.Buffers as puzzle
 
 -- ---- sizes, events and questions go in as plain numbers
 

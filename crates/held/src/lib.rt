@@ -11,7 +11,7 @@ ghost use Rattle.held.specs.Work.{cell, workBytes, HasByte, Room};
 ghost use Rattle.held.specs.FollowCode.{stepIn, followed, reread, rereadAll, rereadAt, rereadWord, cleared, restarted};
 ghost use Rattle.paging.specs.declared.Guest.{Guest};
 
-const WORDS: u64 = 512;
+const WORDS: u64 = paging::FRAME_WORDS as u64;
 
 pub fn cell_of(frames: u64, w: Walk) -> usize
     requires { ⌜ (frames ≤ 256) × HasByte frames w ⌝ }
@@ -36,7 +36,7 @@ pub fn next(words: &[u64], frames: u64, page: u64, w: Walk) -> Step
 }
 
 // Marks w and all it goes on to; a marked walk ends it, since what that goes on to is marked or will be read again.
-pub fn follow(words: &[u64], work: &mut [u8], frames: u64, page: u64, from: Walk)
+fn follow(words: &[u64], work: &mut [u8], frames: u64, page: u64, from: Walk)
     requires { ⌜ Room frames (now words) (now work) × HasByte frames from ⌝ }
     ensures { λ r. ⌜ now (work .exit) ≡ followed tables64 frames page (now (words .entry)) from (now (work .entry)) ⌝ }
 {

@@ -15,12 +15,12 @@ use Rattle.rules.specs.Refusal.{test, refusal}
 use Rattle.rules.specs.History.{eventRefusal}
 use Rattle.tables.specs.State.{Machine, State, tableCount, recordSize}
 use Rattle.lawful.specs.Rules.{lawful}
-use Rattle.shadow.specs.After.{asSetup, rangesFit, lengthsFit, framesFit, callRefusal}
 use Rattle.shadow.proofs.Sizing.{Ranged}
 use Rattle.shadow.proofs.Accepted.{call-accepted, call-event}
 use Rattle.trees.proofs.Trees.{Able}
 use Rattle.trees.proofs.Rules.{lawful-is}
 use Rattle.keeps.proofs.RightStates.{Mapped, RightState}
+use Rattle.shadow.specs.Refusals.{asSetup, rangesFit, lengthsFit, framesFit, callRefusal}
 
 -- an event's tests read neither words nor CR3s
 pub same-tests : (M : Machine) (s : State) (words cr3s : List ℕ) (e : Event) → eventRefusal (record { tables = M .tables; frames = M .frames; processors = M .processors; words = words; cr3s = cr3s }) e ≡ eventRefusal (asSetup M s) e

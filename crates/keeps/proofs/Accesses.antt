@@ -9,20 +9,17 @@ use borrow.Author.Tests.{ltb-true}
 use Rattle.paging.specs.declared.Guest.{Guest}
 use Rattle.paging.specs.declared.Walk.{Walk}
 use Rattle.paging.specs.declared.Request.{Request}
-use Rattle.paging.specs.Frame.{guest, host, hostOf}
+use Rattle.paging.specs.Frame.{guest, host, hostOf, hostAddress}
 use Rattle.paging.specs.Layout.{Layout, index, pageOf, frameOf, rightsOf, isPresent, get, put, withD}
-use Rattle.paging.specs.Request.{requestOf, enough}
+use Rattle.paging.specs.Request.{requestOf, enough, isWrite}
 use Rattle.paging.specs.Walk.{meet, start}
 use Rattle.paging.specs.Sound.{Sound}
 use Rattle.paging.proofs.Indices.{index-small}
 use Rattle.paging.proofs.Numbers.{first-passes}
 use Rattle.tables.specs.declared.Path.{Path}
-use Rattle.tables.specs.declared.Walked.{Walked}
-use Rattle.tables.specs.declared.Walked.the-variants.{Whole, Fault}
-use Rattle.tables.specs.State.{Machine, State, stateOf, slotCount, placeIn, shadows, rootOf, nextEntry, pathTo}
-use Rattle.tables.specs.Steps.{GuestWalk, walkGuest, slotServes, servingSlot}
+use Rattle.tables.specs.State.{Machine, State, stateOf, shadows, rootOf, nextEntry, pathTo}
 use Rattle.shadow.specs.declared.Answer.the-variants.{Address, Fault as Faulted, Again}
-use Rattle.shadow.specs.After.{Result, gives, valueAt, isWrite, dirtied, fill, faulted, afterAccess, afterMiss, afterWalk}
+use Rattle.shadow.specs.Access.{faulted}
 use Rattle.trees.proofs.Trees.{Able}
 use Rattle.trees.proofs.Settles.{Leads}
 use Rattle.keeps.proofs.Alikes.{Same, same-refl, same-sym, same-trans, same-with-bit}
@@ -30,6 +27,13 @@ use Rattle.keeps.proofs.WalkReads.{walk-reads}
 use Rattle.keeps.proofs.RightStates.{Mapped, RightState, Reshaped, words-right, reshaped-right}
 use Rattle.keeps.proofs.Moves.{page-small}
 use Rattle.keeps.proofs.Filled.{Fills, fills, fill-reshapes}
+use Rattle.guest.specs.declared.Walked.{Walked}
+use Rattle.guest.specs.declared.Walked.the-variants.{Whole, Fault}
+use Rattle.slots.specs.Slots.{slotCount, placeIn, slotServes, servingSlot}
+use Rattle.guest.specs.GuestWalk.{GuestWalk, walkGuest, dirtied}
+use Rattle.shadow.specs.Answer.{Result, gives}
+use Rattle.shadow.specs.Fill.{fill}
+use Rattle.shadow.specs.Access.{afterAccess, afterMiss, afterWalk}
 
 -- D changes nothing but D
 pub dirtied-same : (Y : Layout) → Sound Y → (q : Request) (page : ℕ) (last : Guest) (words : List ℕ) → Same Y (dirtied Y q page last words) words
@@ -75,9 +79,9 @@ module _ (M : Machine) (map : List ℕ) (p a b : ℕ) (s : State) where
   -- THE WAYS OUT OF AN ACCESS
   pub data Way (out : Result) : Type 0 where
     slot : (k : ℕ) → k < slotCount → slotServes (s .slots) p page q k ≡ true
-        → out ≡ gives (Address (valueAt (hostOf map (guest (placeIn (s .slots) p k))) a)) s → Way out
+        → out ≡ gives (Address (hostAddress (hostOf map (guest (placeIn (s .slots) p k))) a)) s → Way out
     shadow : isPresent end ≡ true → enough q (meet (path .rights) (rightsOf (M .tables) end)) ≡ true
-        → out ≡ gives (Address (valueAt (host (frameOf (M .tables) end)) a)) s → Way out
+        → out ≡ gives (Address (hostAddress (host (frameOf (M .tables) end)) a)) s → Way out
     fault : (base : ℕ) → walked .ended ≡ Fault base → out ≡ gives (Faulted (base + q .adds)) (faulted M p page walkedOver) → Way out
     lacks : (last : Guest) (w : Walk) → walked .ended ≡ Whole last w → enough q (w .rights) ≡ false → out ≡ gives (Faulted (1 + q .adds)) (faulted M p page walkedOver) → Way out
     again : (last : Guest) (w : Walk) → walked .ended ≡ Whole last w → enough q (w .rights) ≡ true → out ≡ gives Again (fill M map p page (written last)) → Way out
@@ -103,8 +107,8 @@ module _ (M : Machine) (map : List ℕ) (p a b : ℕ) (s : State) where
       k = servingSlot (s .slots) p page q
 
       go : (u : Bool) → ltb k slotCount ≡ u → (v : Bool) → isPresent end ≡ v → (w : Bool) → enough q (meet (path .rights) (rightsOf (M .tables) end)) ≡ w
-          → Way (cond u (gives (Address (valueAt (hostOf map (guest (placeIn (s .slots) p k))) a)) s)
-          (cond (v && w) (gives (Address (valueAt (host (frameOf (M .tables) end)) a)) s) (afterMiss M map p page q s)))
+          → Way (cond u (gives (Address (hostAddress (hostOf map (guest (placeIn (s .slots) p k))) a)) s)
+          (cond (v && w) (gives (Address (hostAddress (host (frameOf (M .tables) end)) a)) s) (afterMiss M map p page q s)))
       go true e v f w g = slot k (ltb-true k slotCount e) (serving (s .slots) p page q (ltb-true k slotCount e)) refl
       go false e true f true g = shadow f g refl
       go false e true f false g = miss
@@ -116,10 +120,10 @@ module _ (M : Machine) (map : List ℕ) (p a b : ℕ) (s : State) where
   served here good = go (ltb (servingSlot (s .slots) p page q) slotCount) here good
     where
       go : (u : Bool) → isPresent end ≡ true → enough q (meet (path .rights) (rightsOf (M .tables) end)) ≡ true
-          → (v : ℕ) × (cond u (gives (Address (valueAt (hostOf map (guest (placeIn (s .slots) p (servingSlot (s .slots) p page q)))) a)) s)
-          (cond (isPresent end && enough q (meet (path .rights) (rightsOf (M .tables) end))) (gives (Address (valueAt (host (frameOf (M .tables) end)) a)) s) (afterMiss M map p page q s)) .answer ≡ Address v)
+          → (v : ℕ) × (cond u (gives (Address (hostAddress (hostOf map (guest (placeIn (s .slots) p (servingSlot (s .slots) p page q)))) a)) s)
+          (cond (isPresent end && enough q (meet (path .rights) (rightsOf (M .tables) end))) (gives (Address (hostAddress (host (frameOf (M .tables) end)) a)) s) (afterMiss M map p page q s)) .answer ≡ Address v)
       go true here good = (_, refl)
-      go false here good = (valueAt (host (frameOf (M .tables) end)) a, simp (here, good))
+      go false here good = (hostAddress (host (frameOf (M .tables) end)) a, simp (here, good))
 
   -- ---- the walk of the guest's tables
 

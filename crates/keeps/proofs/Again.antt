@@ -11,19 +11,22 @@ use Rattle.paging.specs.declared.Guest.{Guest}
 use Rattle.paging.specs.declared.Walk.{Walk}
 use Rattle.paging.specs.declared.Request.{Request}
 use Rattle.paging.specs.Layout.{Layout, bit, get, put, index, pageOf, frameOf, rightsOf, isPresent, withBit, withD}
-use Rattle.paging.specs.Request.{requestOf, enough}
+use Rattle.paging.specs.Request.{requestOf, enough, isWrite}
 use Rattle.paging.specs.Walk.{meet}
 use Rattle.paging.specs.Sound.{Sound}
 use Rattle.paging.proofs.Layouts.{length-put, get-with-bit, get-past}
 use Rattle.paging.proofs.Indices.{index-small}
 use Rattle.paging.proofs.Rights.{meet-small, rights-small, needs-small}
 use Rattle.tables.specs.declared.Path.{Path}
-use Rattle.tables.specs.declared.Walked.the-variants.{Whole}
+use Rattle.guest.specs.declared.Walked.the-variants.{Whole}
 use Rattle.tables.specs.State.{Machine, State, top, nextEntry, descend, pathTo}
-use Rattle.tables.specs.Steps.{guestEntry, leafOf}
+use Rattle.guest.specs.GuestWalk.{guestEntry, dirtied}
+use Rattle.tables.specs.Steps.{leafOf}
 use Rattle.shadow.specs.declared.Answer.{Answer}
 use Rattle.shadow.specs.declared.Answer.the-variants.{Again}
-use Rattle.shadow.specs.After.{Result, isWrite, dirtied, fill, afterAccess}
+use Rattle.shadow.specs.Answer.{Result}
+use Rattle.shadow.specs.Fill.{fill}
+use Rattle.shadow.specs.Access.{afterAccess}
 use Rattle.trees.proofs.Trees.{Able}
 use Rattle.trees.proofs.Builds.{Own}
 use Rattle.trees.proofs.Leaves.{Filled, leafOf-right}

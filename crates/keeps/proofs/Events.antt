@@ -14,7 +14,7 @@ use Rattle.paging.proofs.Numbers.{all-at}
 use Rattle.paging.proofs.Tests.{both}
 use Rattle.rules.specs.declared.Event.{Event}
 use Rattle.tables.specs.State.{Machine, State, tableCount}
-use Rattle.shadow.specs.After.{Result, poolFits, inPool, framesFit, callRefusal, after, decode, moved, afterStore, afterInvlpg, afterCr3, afterAccess, afterBegin, afterExtend, afterDrop}
+use Rattle.shadow.specs.After.{after, moved}
 use Rattle.shadow.proofs.Sizing.{hosts-below}
 use Rattle.shadow.proofs.Accepted.{accepted-ranged, accepted-room, accepted-exact, accepted-frames, accepted-lawful, accepted-cr3, accepted-numbers}
 use Rattle.shadow.proofs.Moves.{seventh, moved-store, moved-invlpg, moved-cr3, moved-access, moved-begin, moved-extend, moved-drop}
@@ -22,6 +22,10 @@ use Rattle.paging.specs.Sound.{Laid}
 use Rattle.trees.proofs.Trees.{Able, able}
 use Rattle.trees.proofs.Rules.{lawful-is}
 use Rattle.keeps.proofs.RightStates.{Mapped, RightState}
+use Rattle.shadow.specs.Answer.{Result}
+use Rattle.shadow.specs.Refusals.{poolFits, inPool, framesFit, callRefusal}
+use Rattle.shadow.specs.Moves.{decode, afterStore, afterInvlpg, afterCr3, afterBegin, afterExtend, afterDrop}
+use Rattle.shadow.specs.Access.{afterAccess}
 
 -- a map that fits
 pub mapped : (M : Machine) (map : List ℕ) → length map ≡ M .frames → framesFit M map ≡ true → Mapped M map

@@ -8,9 +8,12 @@ use Rattle.paging.specs.Layout.{frameWords, pageOf}
 use Rattle.paging.specs.Request.{requestOf}
 use Rattle.rules.specs.declared.Event.{Event}
 use Rattle.tables.specs.State.{Machine, State}
-use Rattle.tables.proofs.Counts.{by-cases}
+use Rattle.paging.proofs.Counts.{by-cases}
 use Rattle.shadow.specs.declared.Answer.the-variants.{Done, Address, Again}
-use Rattle.shadow.specs.After.{Result, callRefusal, after, afterInvlpg, afterCr3, afterBegin, afterDrop}
+use Rattle.shadow.specs.After.{after}
+use Rattle.shadow.specs.Answer.{Result}
+use Rattle.shadow.specs.Refusals.{callRefusal}
+use Rattle.shadow.specs.Moves.{afterInvlpg, afterCr3, afterBegin, afterDrop}
 use Rattle.shadow.proofs.Accepted.{accepted-ranged, accepted-own, accepted-words}
 use Rattle.paging.specs.Sound.{Laid}
 use Rattle.trees.proofs.Trees.{Able}

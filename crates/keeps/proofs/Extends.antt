@@ -13,13 +13,15 @@ use Rattle.paging.specs.Layout.{index, frameOf, rightsOf, bit, isPresent}
 use Rattle.paging.specs.Walk.{meet}
 use Rattle.paging.proofs.Tests.{both}
 use Rattle.paging.proofs.Indices.{index-small}
-use Rattle.tables.specs.State.{Machine, State, stateOf, slotCount, markOf, pageIn, placeIn, rightsIn, withSlot, tableCount, entryCount, entryOf, named}
-use Rattle.tables.proofs.Counts.{by-cases}
+use Rattle.tables.specs.State.{Machine, State, stateOf, tableCount, entryCount, entryOf, named}
+use Rattle.slots.specs.Slots.{slotCount, markOf, pageIn, placeIn, rightsIn, withSlot}
+use Rattle.paging.proofs.Counts.{by-cases}
 use Rattle.lawful.specs.Rules.{isOf, isMapped, isMadeWith, isLeaf}
 use Rattle.shadow.specs.declared.Answer.the-variants.{Done, NoStep}
 use Rattle.shadow.specs.declared.Place.{Place}
 use Rattle.shadow.specs.declared.Place.the-variants.{At}
-use Rattle.shadow.specs.After.{Result, gives, byPlace, placeOf, placeBelow, afterExtend}
+use Rattle.shadow.specs.Answer.{Result, gives}
+use Rattle.shadow.specs.Moves.{byPlace, placeOf, placeBelow, afterExtend}
 use Rattle.trees.proofs.Trees.{Able, lev}
 use Rattle.trees.proofs.Entries.{branch-names}
 use Rattle.trees.proofs.Paths.{stands, zero-absent}

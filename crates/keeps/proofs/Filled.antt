@@ -9,10 +9,8 @@ use lib.Dec.{ltb}
 use lib.ListN.{length}
 use borrow.Author.Tests.{ltb-false}
 use Rattle.paging.specs.declared.Guest.{Guest}
-use Rattle.tables.specs.State.{Machine, State, stateOf, slotCount, markOf, shadows, rootOf}
-use Rattle.tables.specs.Steps.{Settled, settle, build, freeCount, emptyShare, flush, emptySlots}
-use Rattle.tables.proofs.Counts.{by-cases}
-use Rattle.shadow.specs.After.{fill}
+use Rattle.tables.specs.State.{Machine, State, stateOf, shadows, rootOf}
+use Rattle.tables.specs.Steps.{Settled, settle, build, freeCount, emptyShare}
 use Rattle.shadow.proofs.Shares.{enough-free}
 use Rattle.trees.proofs.Trees.{Able}
 use Rattle.trees.proofs.Settles.{Leads}
@@ -20,6 +18,9 @@ use Rattle.trees.proofs.Builds.{Built, filled, refilled}
 use Rattle.trees.proofs.Slots.{SameSlot, Empty, Room, same-on, same-empty, emptySlots-length, emptySlots-other, emptySlots-here, flush-length, flush-others, flush-here}
 use Rattle.keeps.proofs.RightStates.{Mapped, RightState, room, Reshaped}
 use Rattle.keeps.proofs.Takes.{flush-leaves}
+use Rattle.slots.specs.Slots.{slotCount, markOf, flush, emptySlots}
+use Rattle.paging.proofs.Counts.{by-cases}
+use Rattle.shadow.specs.Fill.{fill}
 
 module _ (M : Machine) (ok : Able M) (spare : M .tables .levels ≤ M .share) (map : List ℕ) (fits : Mapped M map) (p : ℕ) (hp : p < M .processors) (s : State) (r : RightState M map s)
     (page : ℕ) (paged : page < 2 ^ (M .tables .indexBits * M .tables .levels)) (last f : Guest) (x : ℕ) (leads : Leads M (s .words) page last f x (M .tables .levels) (shadows (s .shadow .records) (rootOf M p)) 7) where

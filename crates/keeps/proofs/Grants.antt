@@ -7,11 +7,10 @@ use native.Mathlib.Omega.{arith}
 use lib.Dec.{T, eqb, eqb→eq}
 use Rattle.paging.specs.declared.Request.{Request}
 use Rattle.paging.specs.Walk.{meet}
-use Rattle.paging.specs.Request.{enough}
+use Rattle.paging.specs.Request.{enough, isWrite}
 use Rattle.paging.proofs.Finite.{below, at-below, at-below₂}
 use Rattle.paging.proofs.Rights.{meet-small, enough-meet}
 use Rattle.paging.proofs.Tests.{T-true}
-use Rattle.shadow.specs.After.{isWrite}
 
 abbrev asks : ℕ → Request
 asks n = record { needs = n; adds = 0 }

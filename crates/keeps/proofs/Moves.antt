@@ -18,12 +18,14 @@ use Rattle.paging.specs.Layout.{Layout, index, pageOf, frameOf, rightsOf, isPre
 use Rattle.paging.specs.Walk.{meet}
 use Rattle.paging.proofs.Rights.{meet-small}
 use Rattle.tables.specs.declared.Path.{Path}
-use Rattle.tables.specs.State.{Machine, State, stateOf, slotCount, markOf, pageIn, placeIn, rightsIn, withSlot, emptied, tableCount, rootOf, entryOf, named, top, nextEntry, down, descend, pathTo}
-use Rattle.tables.proofs.Counts.{by-cases}
+use Rattle.tables.specs.State.{Machine, State, stateOf, tableCount, rootOf, entryOf, named, top, nextEntry, down, descend, pathTo}
+use Rattle.slots.specs.Slots.{slotCount, markOf, pageIn, placeIn, rightsIn, withSlot, emptied}
+use Rattle.paging.proofs.Counts.{by-cases}
 use Rattle.shadow.specs.declared.Answer.the-variants.{Done, NoStep}
 use Rattle.shadow.specs.declared.Place.{Place}
 use Rattle.shadow.specs.declared.Place.the-variants.{At, Off}
-use Rattle.shadow.specs.After.{Result, afterBegin, afterExtend, afterDrop, gives, byPlace, placeOf, placeBelow}
+use Rattle.shadow.specs.Answer.{Result, gives}
+use Rattle.shadow.specs.Moves.{afterBegin, afterExtend, afterDrop, byPlace, placeOf, placeBelow}
 use Rattle.shadow.proofs.Extends.{origin-small}
 use Rattle.lawful.specs.Rules.{slotRight}
 use Rattle.trees.proofs.Trees.{Able, Outside}

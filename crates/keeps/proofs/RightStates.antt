@@ -7,14 +7,15 @@ use Prim.Native.Nat.{ℕ, _-_, _*_, _^_, _<_}
 use native.Mathlib.Decide.{ℕ-discrete}
 use native.Mathlib.Omega.{arith}
 use lib.ListN.{length, getD}
-use Rattle.tables.specs.State.{Machine, State, stateOf, slotCount, markOf, pageIn, tableCount, pathTo}
-use Rattle.tables.proofs.Counts.{by-cases}
+use Rattle.tables.specs.State.{Machine, State, stateOf, tableCount, pathTo}
 use Rattle.lawful.specs.Rules.{slotRight}
 use Rattle.trees.proofs.Trees.{Able, Outside, Exact, own, Another, Trees, Same}
 use Rattle.trees.proofs.Rules.{Lawful}
 use Rattle.trees.proofs.Paths.{same-path}
 use Rattle.trees.proofs.Slots.{SameSlot, Empty, Room}
 use Rattle.trees.proofs.SlotRules.{empty-right, same-right, stays-right}
+use Rattle.slots.specs.Slots.{slotCount, markOf, pageIn}
+use Rattle.paging.proofs.Counts.{by-cases}
 
 -- the map of a call: all guest frames, host frames in range and outside the pool
 pub record Mapped (M : Machine) (map : List ℕ) : Type 0 where

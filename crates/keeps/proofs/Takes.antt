@@ -13,10 +13,9 @@ use borrow.Author.Tests.{ltb-true, ltb-false}
 use Rattle.paging.specs.Frame.{guest}
 use Rattle.paging.specs.Layout.{index, pageOf, isPresent}
 use Rattle.paging.proofs.Indices.{index-small}
-use Rattle.tables.specs.State.{Machine, Shadow, onPool, onRecords, State, stateOf, slotCount, markOf, pageIn, withRecord, tableCount, rootOf, entryCount, withEntry, nextEntry, pathTo}
-use Rattle.tables.specs.Steps.{flush, emptyShare}
-use Rattle.tables.proofs.Counts.{by-cases}
-use Rattle.shadow.specs.After.{leafCleared, afterInvlpg, afterCr3}
+use Rattle.tables.specs.State.{Machine, Shadow, onPool, onRecords, State, stateOf, withRecord, tableCount, rootOf, entryCount, withEntry, nextEntry, pathTo}
+use Rattle.slots.specs.Slots.{pageIn}
+use Rattle.tables.specs.Steps.{emptyShare}
 use Rattle.trees.proofs.Trees.{Able, Outside, ent, lev, shd, own, Another, Trees, Less, Same}
 use Rattle.trees.proofs.Leaves.{leaf-entry, leaf-beside, leaf-trees}
 use Rattle.trees.proofs.Roots.{root-owner}
@@ -26,6 +25,9 @@ use Rattle.trees.proofs.Paths.{lost-entry, stands, zero-absent, upper-path}
 use Rattle.trees.proofs.Unique.{leaf-here}
 use Rattle.trees.proofs.Slots.{SameSlot, Empty, Room, emptySlots-length, emptySlots-other, emptySlots-here, flush-length, flush-others, flush-here}
 use Rattle.keeps.proofs.RightStates.{Mapped, RightState, room, PathStays, Reshaped}
+use Rattle.slots.specs.Slots.{slotCount, markOf, flush}
+use Rattle.paging.proofs.Counts.{by-cases}
+use Rattle.shadow.specs.Moves.{leafCleared, afterInvlpg, afterCr3}
 
 -- what a flush leaves of a slot
 pub flush-leaves : (p v : ℕ) (slots : List ℕ) (k : ℕ) → k < slotCount → Room slots p

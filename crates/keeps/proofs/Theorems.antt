@@ -7,12 +7,12 @@ use Prim.Native.Nat.{ℕ, _-_, _<_}
 use native.Mathlib.Omega.{arith}
 use Rattle.paging.specs.Layout.{index, isPresent}
 use Rattle.rules.specs.declared.Event.{Event}
-use Rattle.tables.specs.State.{Machine, State, markOf, pageIn, placeIn, entryOf}
-use Rattle.tables.proofs.Counts.{by-cases}
+use Rattle.tables.specs.State.{Machine, State, entryOf}
+use Rattle.slots.specs.Slots.{markOf, pageIn, placeIn}
 use Rattle.lawful.specs.Rules.{lawful}
 use Rattle.rules.specs.History.{eventRefusal}
 use Rattle.shadow.specs.declared.Answer.the-variants.{Done, Address, Again, Refused}
-use Rattle.shadow.specs.After.{Result, asSetup, callRefusal, after, afterInvlpg, afterCr3, afterBegin, afterDrop}
+use Rattle.shadow.specs.After.{after}
 use Rattle.shadow.proofs.Accepted.{accepted-ranged, accepted-own, accepted-frames, accepted-event}
 use Rattle.paging.specs.Sound.{Laid}
 use Rattle.trees.proofs.Trees.{Able}
@@ -25,6 +25,10 @@ use Rattle.keeps.proofs.Accepts.{same-tests, accepts}
 use Rattle.keeps.proofs.Extends.{moves}
 use Rattle.keeps.proofs.EventsKeep.{right-after, words-after, again-serves, served-address}
 use Rattle.keeps.proofs.Events.{Kind, store, invlpg, cr3, access, begin, extend, drop, accepted-mapped, accepted-able, accepted-right, kinds}
+use Rattle.paging.proofs.Counts.{by-cases}
+use Rattle.shadow.specs.Answer.{Result}
+use Rattle.shadow.specs.Refusals.{asSetup, callRefusal}
+use Rattle.shadow.specs.Moves.{afterInvlpg, afterCr3, afterBegin, afterDrop}
 
 module _ (M : Machine) (map : List ℕ) (s : State) (e : Event) (laid : Laid (M .tables)) (ok : callRefusal M map s e ≡ 0) where
   abbrev fits : Mapped M map

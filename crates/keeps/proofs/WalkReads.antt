@@ -15,9 +15,9 @@ use Rattle.paging.specs.Sound.{Alike, Sound}
 use Rattle.paging.proofs.Layouts.{present-alike, frame-alike, rights-alike}
 use Rattle.paging.proofs.Indices.{index-small}
 use Rattle.paging.proofs.Steps.{goes, completed}
-use Rattle.tables.specs.declared.Walked.the-variants.{Whole, Fault}
+use Rattle.guest.specs.declared.Walked.the-variants.{Whole, Fault}
 use Rattle.tables.specs.State.{Machine}
-use Rattle.tables.specs.Steps.{GuestWalk, byStep, walkFrom, guestEntry}
+use Rattle.guest.specs.GuestWalk.{GuestWalk, byStep, walkFrom, guestEntry}
 use Rattle.keeps.proofs.Alikes.{Same, same-trans, same-with-bit}
 use Rattle.trees.proofs.Settles.{Leads}
 

@@ -8,7 +8,8 @@ use lib.Dec.{eqb, ltb, leb}
 use lib.ListN.{getD}
 use borrow.Author.Tests.{eq-eqb, ne-eqb, lt-ltb, le-ltb, le-leb, lt-leb, eqb-true, eqb-false}
 use Rattle.tables.specs.declared.Sizes.{Sizes}
-use Rattle.tables.specs.State.{machine64, slotAt, markOf, pageIn}
+use Rattle.tables.specs.State.{machine64}
+use Rattle.slots.specs.Slots.{slotAt, markOf, pageIn}
 use Rattle.lawful.specs.Rules.{isOnPath, slotRight}
 
 -- place and rights are 0 where their number is

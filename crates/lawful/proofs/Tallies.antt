@@ -13,7 +13,7 @@ use Rattle.paging.specs.Numbers.{sum, count}
 use Rattle.tables.specs.declared.Sizes.{Sizes}
 use Rattle.tables.specs.State.{machine64, tableCount, entryOf, named, Sized}
 use Rattle.tables.proofs.Names.{few}
-use Rattle.tables.proofs.Counts.{sum-none, sum-more, count-hit, count-miss, count-small}
+use Rattle.paging.proofs.Counts.{sum-none, sum-more, count-hit, count-miss, count-small}
 use Rattle.lawful.specs.TallyCode.{namesBelow, Tallied}
 
 -- the entries of t below i are counted too

@@ -8,7 +8,8 @@ use Rattle.paging.specs.declared.Origin.the-variants.{Of, Nowhere}
 use Rattle.paging.specs.Frame.{host, originOf}
 use Rattle.paging.specs.Layout.{Layout, bit, frameOf, rightsOf, compose}
 use Rattle.paging.specs.Numbers.{all, sum, count}
-use Rattle.tables.specs.State.{Machine, Shadow, State, levelOf, shadows, isFree, slotCount, markOf, pageIn, placeIn, rightsIn, tableCount, homeOf, ownerOf, rootOf, entryCount, entryOf, named, pathTo}
+use Rattle.tables.specs.State.{Machine, Shadow, State, levelOf, shadows, isFree, tableCount, homeOf, ownerOf, rootOf, entryCount, entryOf, named, pathTo}
+use Rattle.slots.specs.Slots.{slotCount, markOf, pageIn, placeIn, rightsIn}
 
 abbrev pub isOf : Origin → Bool
 isOf (Of g) = true

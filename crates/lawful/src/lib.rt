@@ -3,11 +3,12 @@ ghost use mathlib.Core.Path.{_≡_};
 ghost use mathlib.Core.List.{List};
 ghost use Prim.Native.Nat.{ℕ, _+_, _*_, _/_, _%_, _<_, _≤_};
 ghost use lib.ListN.{length};
-ghost use Rattle.paging.specs.Layout.{tables64};
+ghost use Rattle.paging.specs.Layout.{tables64, frameWords};
 ghost use Rattle.paging.specs.Numbers.{all};
 ghost use Rattle.tables.specs.State.{shadowOf, stateOf, machine64, tableCount, rootOf, entryOf, Sized};
 ghost use Rattle.lawful.specs.Rules.{isMapped, isMadeWith, isLeaf, isBranch, isLaidOut, namesLower, isRoot, recordRight, entryRight, tableRight, tableWhole, entryWhole, isOnPath, slotRight, lawful};
 ghost use Rattle.lawful.specs.TallyCode.{Tallied};
+ghost use Rattle.slots.specs.Slots.{slotCount, slotsSize};
 use paging::Host;
 use paging::Origin;
 use tables::Sizes;
@@ -122,11 +123,11 @@ fn entry_right(map: &[u64], hints: &[u8], records: &[u64], z: Sizes, t: u64, e: 
 // An absent entry is passed over: most are, and a call copies every slice.
 fn entries_right(map: &[u64], hints: &[u8], pool: &[u64], records: &[u64], z: Sizes, t: u64) -> bool
     requires { ⌜ Sized z × (t ≤ 64) × (length (now hints) ≡ 4096) ⌝ }
-    ensures { λ r. ⌜ r ≡ all 512 (λ i. entryRight (machine64 z) (now (map .entry)) (now (records .entry)) t (entryOf (machine64 z) (now (pool .entry)) t i)) ⌝ }
+    ensures { λ r. ⌜ r ≡ all frameWords (λ i. entryRight (machine64 z) (now (map .entry)) (now (records .entry)) t (entryOf (machine64 z) (now (pool .entry)) t i)) ⌝ }
 {
     let mut i = 0;
-    while i < 512 {
-        let e = tables::entry_at(pool, t, i);
+    while i < paging::FRAME_WORDS {
+        let e = paging::entry_at(pool, t, i);
         i += 1;
         if e == 0 {
             continue;
@@ -176,8 +177,8 @@ fn tally_table(pool: &[u64], counts: &mut [u64], z: Sizes, t: u64)
 {
     let n = tables::table_count(z);
     let mut i = 0;
-    while i < 512 {
-        let u = tables::named_by(z, tables::entry_at(pool, t, i)) as usize;
+    while i < paging::FRAME_WORDS {
+        let u = tables::named_by(z, paging::entry_at(pool, t, i)) as usize;
         if u < n as usize {
             counts[u] += 1;
         }
@@ -245,8 +246,8 @@ fn table_whole(map: &[u64], hints: &[u8], pool: &[u64], z: Sizes, t: u64, level:
         return true;
     }
     let mut i = 0;
-    while i < 512 {
-        let e = tables::entry_at(pool, t, i);
+    while i < paging::FRAME_WORDS {
+        let e = paging::entry_at(pool, t, i);
         i += 1;
         if e == 0 {
             continue;
@@ -308,7 +309,7 @@ fn is_on_path(pool: &[u64], z: Sizes, p: u64, page: u64, level: u64, third: u64)
 }
 
 fn slot_right(pool: &[u64], slots: &[u64], z: Sizes, p: u64, k: u64) -> bool
-    requires { ⌜ Sized z × (p < z .processors) × (k < 8) × (24 * p + 24 ≤ length (now slots)) ⌝ }
+    requires { ⌜ Sized z × (p < z .processors) × (k < slotCount) × (slotsSize * p + slotsSize ≤ length (now slots)) ⌝ }
     ensures { λ r. ⌜ r ≡ slotRight (machine64 z) (now (pool .entry)) (now (slots .entry)) p k ⌝ }
 {
     let at = slots::slot_at(p, k);
@@ -334,11 +335,11 @@ fn slot_right(pool: &[u64], slots: &[u64], z: Sizes, p: u64, k: u64) -> bool
 }
 
 fn slots_of_right(pool: &[u64], slots: &[u64], z: Sizes, p: u64) -> bool
-    requires { ⌜ Sized z × (p < z .processors) × (24 * p + 24 ≤ length (now slots)) ⌝ }
-    ensures { λ r. ⌜ r ≡ all 8 (slotRight (machine64 z) (now (pool .entry)) (now (slots .entry)) p) ⌝ }
+    requires { ⌜ Sized z × (p < z .processors) × (slotsSize * p + slotsSize ≤ length (now slots)) ⌝ }
+    ensures { λ r. ⌜ r ≡ all slotCount (slotRight (machine64 z) (now (pool .entry)) (now (slots .entry)) p) ⌝ }
 {
     let mut k = 0;
-    while k < 8 {
+    while k < slots::SLOTS {
         if !slot_right(pool, slots, z, p, k) {
             return false;
         }
@@ -348,8 +349,8 @@ fn slots_of_right(pool: &[u64], slots: &[u64], z: Sizes, p: u64) -> bool
 }
 
 fn slots_right(pool: &[u64], slots: &[u64], z: Sizes) -> bool
-    requires { ⌜ Sized z × (24 * z .processors ≤ length (now slots)) ⌝ }
-    ensures { λ r. ⌜ r ≡ all (z .processors) (λ p. all 8 (slotRight (machine64 z) (now (pool .entry)) (now (slots .entry)) p)) ⌝ }
+    requires { ⌜ Sized z × (slotsSize * z .processors ≤ length (now slots)) ⌝ }
+    ensures { λ r. ⌜ r ≡ all (z .processors) (λ p. all slotCount (slotRight (machine64 z) (now (pool .entry)) (now (slots .entry)) p)) ⌝ }
 {
     let mut p = 0;
     while p < z.processors {
@@ -369,7 +370,7 @@ fn is_lawful_by(
     slots: &[u64],
     z: Sizes,
 ) -> bool
-    requires { ⌜ Sized z × (24 * z .processors ≤ length (now slots)) × (length (now hints) ≡ 4096) ⌝ }
+    requires { ⌜ Sized z × (slotsSize * z .processors ≤ length (now slots)) × (length (now hints) ≡ 4096) ⌝ }
     ensures { λ r. ⌜ ((words : List ℕ) → r ≡ lawful (machine64 z) (now (map .entry)) (stateOf words (shadowOf (now (pool .entry)) (now (records .entry))) (now (slots .entry)))) ⌝ }
 {
     if !tables_right(map, hints, pool, records, z) {
@@ -383,7 +384,7 @@ fn is_lawful_by(
 
 // Whether all state rules hold.
 pub fn is_lawful(map: &[u64], pool: &[u64], records: &[u64], slots: &[u64], z: Sizes) -> bool
-    requires { ⌜ Sized z × (24 * z .processors ≤ length (now slots)) ⌝ }
+    requires { ⌜ Sized z × (slotsSize * z .processors ≤ length (now slots)) ⌝ }
     ensures { λ r. ⌜ ((words : List ℕ) → r ≡ lawful (machine64 z) (now (map .entry)) (stateOf words (shadowOf (now (pool .entry)) (now (records .entry))) (now (slots .entry)))) ⌝ }
 {
     let mut hints = [0u8; 4096];

@@ -24,18 +24,6 @@ pub enum Listed {
     Refused(u64),
 }
 
-pub fn event_at(events: &[u64], k: usize) -> Event
-    requires { ⌜ 4 * k + 3 < length (now events) ⌝ }
-    ensures { λ r. ⌜ r ≡ eventOf (now (events .entry)) k ⌝ }
-{
-    Event {
-        proc: events[4 * k],
-        kind: events[4 * k + 1],
-        a: events[4 * k + 2],
-        b: events[4 * k + 3],
-    }
-}
-
 fn forgotten(frames: u64, page: u64, a: u64) -> usize
     requires { ⌜ frames ≤ 256 ⌝ }
     ensures { λ r. ⌜ r ≡ forgets frames page a ⌝ }
@@ -99,7 +87,7 @@ fn replay(
     let mut cr3 = start;
     let mut k = 0;
     while k < n {
-        let e = event_at(events, k);
+        let e = rules::event_at(events, k);
         cr3 = apply(words, work, frames, p, page, cr3, e);
         k += 1;
     }
@@ -309,7 +297,7 @@ fn sizes_fit(
     if events / 4 > 4096 {
         return false;
     }
-    if words != 512 * map {
+    if words != paging::FRAME_WORDS * map {
         return false;
     }
     if work < 40 * map {
@@ -325,7 +313,7 @@ fn events_refusal(events: &[u64], frames: u64, processors: u64) -> u64
     let n = events.len() / 4;
     let mut k = 0;
     while k < n {
-        let r = rules::event_refusal(frames, processors, event_at(events, k));
+        let r = rules::event_refusal(frames, processors, rules::event_at(events, k));
         if r != 0 {
             return r;
         }

@@ -2,6 +2,8 @@ pub mod Places
 pub mod Tests
 pub mod Numbers
 pub mod Loops
+pub mod Counts
+pub mod Copies
 pub mod Finite
 pub mod Bits
 pub mod Rights

@@ -1,14 +1,10 @@
 -- Tests as facts: what a passed `&&`, `||` and `not` say, and a number that failed to be 0 or 1.
 use mathlib.Core.Path.{_≡_, refl}
-use mathlib.Core.Logic.{_↔_, _⊎_, inl, inr}
+use mathlib.Core.Logic.{_⊎_, inl, inr}
 use mathlib.Core.Bool.{Bool, true, false, not, _&&_, _||_}
 use Prim.Native.Nat.{ℕ, zero, suc, _<_}
 use native.Mathlib.Omega.{arith}
-use lib.Dec.{T, eqb, eqb-refl}
-
-pub and-i : (a b : Bool) → T a → T b → T (a && b)
-and-i true b p q = q
-and-i false b p q = p
+use lib.Dec.{T}
 
 pub and-l : (a b : Bool) → T (a && b) → T a
 and-l true b t = tt
@@ -34,10 +30,6 @@ pub T-true : (b : Bool) → T b → b ≡ true
 T-true true t = refl
 T-true false t = absurd t
 
-pub T-false : (b : Bool) → T (not b) → b ≡ false
-T-false true t = absurd t
-T-false false t = refl
-
 pub true-T : (b : Bool) → b ≡ true → T b
 true-T b e = rw e tt
 
@@ -47,20 +39,6 @@ false-T b e = rw e tt
 pub both : (a b : Bool) → (a && b) ≡ true → (a ≡ true) × (b ≡ true)
 both true b e = (refl, e)
 both false b e = absurd (true-T false e)
-
-pub T-or-not : (b : Bool) → T b ⊎ T (not b)
-T-or-not true = inl tt
-T-or-not false = inr tt
-
-pub eq→eqb : (m n : ℕ) → m ≡ n → T (eqb m n)
-eq→eqb m n e = rw e (eqb-refl n)
-
--- two tests that pass together are equal
-pub same-test : (a b : Bool) → T a ↔ T b → a ≡ b
-same-test true true e = refl
-same-test false false e = refl
-same-test true false e = absurd (e .0 tt)
-same-test false true e = absurd (e .1 tt)
 
 pub positive : (n : ℕ) → (n ≡ 0 → ⊥) → 0 < n
 positive zero h = absurd (h refl)

@@ -3,7 +3,7 @@
 use mathlib.Core.Path.{_≡_}
 use mathlib.Core.Bool.{Bool, cond, not, _&&_}
 use mathlib.Core.List.{List, [], _∷_}
-use Prim.Native.Nat.{ℕ, _+_, _^_, _<_}
+use Prim.Native.Nat.{ℕ, _+_, _^_, _<_, _*_, _%_}
 use lib.Dec.{eqb, ltb}
 use lib.ListN.{length, getD}
 use Rattle.paging.specs.declared.Guest.{Guest}
@@ -21,6 +21,10 @@ host n = record { 0 = n }
 -- "Each guest frame is mapped to one host frame by a fixed map."
 abbrev pub hostOf : List ℕ → Guest → Host
 hostOf map g = host (getD map (g .0) 0)
+
+-- the host address of an access: "The value is host frame × 4096 + address mod 4096."
+abbrev pub hostAddress : Host → ℕ → ℕ
+hostAddress h a = h .0 * 2 ^ 12 + a % 2 ^ 12
 
 -- the first guest frame from k on that is mapped to h; where no map frame repeats there is no other
 unfoldable pub originFrom : ℕ → List ℕ → Host → Origin

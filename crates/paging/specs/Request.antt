@@ -19,3 +19,7 @@ requestOf Y number = record {
 -- no needed right is lacking
 unfoldable pub enough : Request → ℕ → Bool
 enough q r = leb (bit (q .needs) 0) (bit r 0) && leb (bit (q .needs) 1) (bit r 1) && leb (bit (q .needs) 2) (bit r 2)
+
+-- a request that needs W is a write
+abbrev pub isWrite : Request → Bool
+isWrite q = eqb (bit (q .needs) 0) 1

@@ -2,12 +2,12 @@
 // Every shift and mask of the project stands here. Callers speak of indices, frames, rights and steps.
 ghost use mathlib.Core.Path.{_≡_};
 ghost use Prim.Native.Nat.{_<_, _≤_, _^_};
-ghost use lib.ListN.{length};
+ghost use lib.ListN.{length, replicate};
 ghost use Rattle.paging.specs.Numbers.{isBetween};
 ghost use Rattle.paging.specs.NotesCode.{notedAt, Noted};
-ghost use Rattle.paging.specs.Frame.{hostOf, originOf, isNew, mapFits, cr3sFit};
-ghost use Rattle.paging.specs.Layout.{tables64, pageOf, index, frameOf, rightsOf, compose, isPresent, withBit, bit};
-ghost use Rattle.paging.specs.Walk.{start, narrowed, downTo, step};
+ghost use Rattle.paging.specs.Frame.{hostOf, originOf, isNew, mapFits, cr3sFit, hostAddress};
+ghost use Rattle.paging.specs.Layout.{tables64, pageOf, index, frameOf, rightsOf, compose, isPresent, withBit, bit, frameWords, get, put};
+ghost use Rattle.paging.specs.Walk.{start, narrowed, downTo, step, meet};
 ghost use Rattle.paging.specs.Request.{requestOf, enough};
 
 // The rights that a request needs, W + 2 U + 4 X, and what it adds to a fault's code.
@@ -37,6 +37,13 @@ pub fn has_enough(q: Request, rights: u64) -> bool
     ensures { λ r. ⌜ r ≡ enough q rights ⌝ }
 {
     q.needs & rights == q.needs
+}
+
+pub fn shared_rights(a: u64, b: u64) -> u64
+    requires { ⌜ (a < 8) × (b < 8) ⌝ }
+    ensures { λ r. ⌜ r ≡ meet a b ⌝ }
+{
+    a & b
 }
 
 const INDEX_BITS: u64 = 9;
@@ -116,6 +123,51 @@ pub fn set_dirty(e: u64) -> u64
     e | (1 << 6)
 }
 
+// ---- words
+
+// "G frames of 512 words"
+pub const FRAME_WORDS: usize = 512;
+
+// Entry i of frame or table f; past the end it is absent.
+pub fn entry_at(words: &[u64], f: u64, i: usize) -> u64
+    requires { ⌜ (f < 2 ^ 40) × (i < frameWords) ⌝ }
+    ensures { λ r. ⌜ r ≡ get tables64 (now (words .entry)) f i ⌝ }
+{
+    let at = FRAME_WORDS * (f as usize) + i;
+    if at < words.len() { words[at] } else { 0 }
+}
+
+pub fn write_entry(words: &mut [u64], f: u64, i: usize, e: u64)
+    requires { ⌜ (f < 2 ^ 40) × (i < frameWords) ⌝ }
+    ensures { λ _. ⌜ now (words .exit) ≡ put tables64 (now (words .entry)) f i e ⌝ }
+{
+    let at = FRAME_WORDS * (f as usize) + i;
+    if at < words.len() {
+        words[at] = e;
+    }
+}
+
+pub fn zero(buffer: &mut [u64])
+    ensures { λ _. ⌜ now (buffer .exit) ≡ replicate (length (now (buffer .entry))) 0 ⌝ }
+{
+    let mut i = 0;
+    while i < buffer.len() {
+        buffer[i] = 0;
+        i += 1;
+    }
+}
+
+pub fn copy(words: &mut [u64], start: &[u64])
+    requires { ⌜ length (now words) ≡ length (now start) ⌝ }
+    ensures { λ _. ⌜ now (words .exit) ≡ now (start .entry) ⌝ }
+{
+    for i in 0..start.len() {
+        words[i] = start[i];
+    }
+}
+
+// ---- frames
+
 pub struct Guest(pub u64);
 
 pub struct Host(pub u64);
@@ -126,12 +178,23 @@ pub enum Origin {
     Nowhere,
 }
 
+// Frames past the end of the map have host frame 0.
 pub fn host_of(map: &[u64], g: Guest) -> Host
-    requires { ⌜ g .0 < length (now map) ⌝ }
     ensures { λ r. ⌜ r ≡ hostOf (now (map .entry)) g ⌝ }
 {
-    let i = g.0 as usize;
-    Host(map[i])
+    if g.0 < map.len() as u64 {
+        Host(map[g.0 as usize])
+    } else {
+        Host(0)
+    }
+}
+
+// "host frame × 4096 + address mod 4096"
+pub fn host_address(h: Host, a: u64) -> u64
+    requires { ⌜ h .0 < 2 ^ 40 ⌝ }
+    ensures { λ r. ⌜ r ≡ hostAddress h a ⌝ }
+{
+    h.0 * 4096 + a % 4096
 }
 
 pub fn origin_of(map: &[u64], h: Host) -> Origin
@@ -257,7 +320,7 @@ impl Walk {
         }
     }
 
-    pub fn narrow(self, e: u64) -> Walk
+    fn narrow(self, e: u64) -> Walk
         requires { ⌜ self .rights < 8 ⌝ }
         ensures { λ r. ⌜ r ≡ narrowed tables64 self e ⌝ }
     {
@@ -269,7 +332,7 @@ impl Walk {
         }
     }
 
-    pub fn down_to(self, f: Guest) -> Walk
+    fn down_to(self, f: Guest) -> Walk
         requires { ⌜ 1 ≤ self .level ⌝ }
         ensures { λ r. ⌜ r ≡ downTo self f ⌝ }
     {

@@ -16,11 +16,8 @@ use Rattle.rules.specs.View.{viewOf}
 use Rattle.rules.specs.Coherent.{Coherent}
 use Rattle.rules.specs.Kept.{Kept, begin}
 use Rattle.rules.proofs.Theorems.{view-coherent}
-use Rattle.tables.specs.declared.Walked.{Walked}
-use Rattle.tables.specs.declared.Walked.the-variants.{Whole}
-use Rattle.tables.specs.State.{Machine, State, slotCount, pageIn, rootOf}
-use Rattle.tables.proofs.Counts.{by-cases}
-use Rattle.shadow.specs.After.{Result, fill, faulted, afterAccess, callRefusal}
+use Rattle.tables.specs.State.{Machine, State, rootOf}
+use Rattle.shadow.specs.Access.{faulted}
 use Rattle.shadow.proofs.Accepted.{accepted-ranged}
 use Rattle.trees.proofs.Trees.{Able, shd}
 use Rattle.trees.proofs.Roots.{root-table, root-another}
@@ -35,6 +32,14 @@ use Rattle.promise.specs.Demand.{Fresh}
 use Rattle.promise.proofs.GuestWalks.{Ends, whole, absent, beyond, walks}
 use Rattle.promise.proofs.Holds.{U, drops, seen, ends, Holds, Pathed, Slotted, stay-path, stay-slot, stay-backed, same-path, same-slot, no-slot, quiet-unended, cr3-kept}
 use Rattle.promise.proofs.Carries.{After, sized, fits, hp, still, kept-words}
+use Rattle.guest.specs.declared.Walked.{Walked}
+use Rattle.guest.specs.declared.Walked.the-variants.{Whole}
+use Rattle.slots.specs.Slots.{slotCount, pageIn}
+use Rattle.paging.proofs.Counts.{by-cases}
+use Rattle.shadow.specs.Answer.{Result}
+use Rattle.shadow.specs.Fill.{fill}
+use Rattle.shadow.specs.Access.{afterAccess}
+use Rattle.shadow.specs.Refusals.{callRefusal}
 
 module _ (F : Fresh) (es : List Event) (k : ℕ) (s : State) (h : Holds F es k s) where
   abbrev M : Machine

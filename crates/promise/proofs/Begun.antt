@@ -11,13 +11,14 @@ use borrow.Author.Tests.{eq-eqb, ne-eqb}
 use Rattle.paging.specs.Frame.{guest}
 use Rattle.paging.specs.Layout.{frameWords, get}
 use Rattle.paging.specs.Numbers.{each}
-use Rattle.tables.specs.State.{Machine, Shadow, shadowOf, onRecords, State, recordSize, withRecord, markOf, pageIn, placeIn, rightsIn, slotAt, tableCount, homeOf, rootOf}
+use Rattle.tables.specs.State.{Machine, Shadow, shadowOf, onRecords, State, recordSize, withRecord, tableCount, homeOf, rootOf}
 use Rattle.lawful.specs.Rules.{isRoot}
-use Rattle.shadow.specs.After.{rooted, started}
 use Rattle.trees.proofs.Trees.{Able, Exact, ent, lev, shd, Names, Trees}
 use Rattle.trees.proofs.Entries.{level-here, frame-here, level-other, frame-other, record-exact, zero-names-none}
 use Rattle.trees.proofs.Hangs.{by-table}
 use Rattle.trees.proofs.Roots.{root-table, root-home, root-is, home-not}
+use Rattle.slots.specs.Slots.{markOf, pageIn, placeIn, rightsIn, slotAt}
+use Rattle.shadow.specs.Setup.{rooted, started}
 
 -- zeros are zero everywhere, past the end too
 zeros-at : (n k : ℕ) → getD {A = ℕ} (replicate n 0) k 0 ≡ 0

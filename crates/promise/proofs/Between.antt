@@ -11,8 +11,8 @@ use Rattle.paging.specs.Request.{enough}
 use Rattle.paging.specs.Walk.{meet}
 use Rattle.rules.specs.declared.Event.{Event}
 use Rattle.tables.specs.State.{Machine, Shadow, State, tableCount, nextEntry, pathTo}
-use Rattle.tables.proofs.Counts.{by-cases}
-use Rattle.shadow.specs.After.{Result, faulted, callRefusal, after, afterBegin, afterDrop}
+use Rattle.shadow.specs.After.{after}
+use Rattle.shadow.specs.Access.{faulted}
 use Rattle.shadow.proofs.Accepted.{accepted-ranged, accepted-own}
 use Rattle.trees.proofs.Trees.{Able, own, Another, Same, Trees}
 use Rattle.trees.proofs.Paths.{same-path, same-entry}
@@ -24,6 +24,10 @@ use Rattle.keeps.proofs.Again.{Serves}
 use Rattle.keeps.proofs.Events.{accepted-mapped, accepted-able, accepted-right, Kind, store, invlpg, cr3, access, begin, extend, drop, kinds}
 use Rattle.promise.specs.Demand.{mayStandBetween}
 use Rattle.paging.specs.Sound.{Laid}
+use Rattle.paging.proofs.Counts.{by-cases}
+use Rattle.shadow.specs.Answer.{Result}
+use Rattle.shadow.specs.Refusals.{callRefusal}
+use Rattle.shadow.specs.Moves.{afterBegin, afterDrop}
 
 -- the page's path serves in any state with the same tables
 pub serves-by : (M : Machine) (p page : ℕ) (q : Request) (s s′ : State) → s′ .shadow ≡ s .shadow → Serves M s p page q → Serves M s′ p page q

@@ -5,7 +5,7 @@ use Prim.Native.Nat.{ℕ, suc}
 use Rattle.rules.specs.declared.Event.{Event}
 use Rattle.rules.specs.History.{eventAt}
 use Rattle.tables.specs.State.{State}
-use Rattle.shadow.specs.After.{Result, callRefusal, after}
+use Rattle.shadow.specs.After.{after}
 use Rattle.keeps.proofs.Events.{Kind, store, invlpg, cr3, access, begin, extend, drop, kinds}
 use Rattle.keeps.proofs.EventsKeep.{right-after, words-after}
 use Rattle.promise.specs.Demand.{Fresh}
@@ -13,6 +13,8 @@ use Rattle.promise.proofs.Holds.{Holds}
 use Rattle.promise.proofs.Carries.{After, stored, invalidated, written, begun, lost}
 use Rattle.promise.proofs.Extended.{extended}
 use Rattle.promise.proofs.Accessed.{accessed}
+use Rattle.shadow.specs.Answer.{Result}
+use Rattle.shadow.specs.Refusals.{callRefusal}
 
 module _ (F : Fresh) (es : List Event) (k : ℕ) (s : State) (h : Holds F es k s)
     (ok : callRefusal (F .machine) (F .map) s (eventAt es k) ≡ 0) where

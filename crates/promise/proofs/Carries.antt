@@ -10,10 +10,7 @@ use Rattle.paging.specs.declared.Guest.{Guest}
 use Rattle.paging.specs.Layout.{frameWords, pageOf}
 use Rattle.rules.specs.declared.Event.{Event}
 use Rattle.rules.specs.History.{eventAt, wordsAt, cr3At}
-use Rattle.tables.specs.State.{Machine, Shadow, State, stateOf, slotCount, markOf, pageIn, rootOf, nextEntry, pathTo}
-use Rattle.tables.specs.Steps.{emptySlots}
-use Rattle.tables.proofs.Counts.{by-cases}
-use Rattle.shadow.specs.After.{callRefusal, afterStore, afterInvlpg, afterCr3, afterBegin, afterDrop}
+use Rattle.tables.specs.State.{Machine, Shadow, State, stateOf, rootOf, nextEntry, pathTo}
 use Rattle.shadow.proofs.Accepted.{accepted-own}
 use Rattle.trees.proofs.Trees.{Able, shd}
 use Rattle.trees.proofs.Paths.{less-full}
@@ -25,6 +22,10 @@ use Rattle.keeps.proofs.Takes.{Takes, invlpg-takes, cr3-takes, cr3-root}
 use Rattle.keeps.proofs.Events.{accepted-mapped, accepted-able}
 use Rattle.promise.specs.Demand.{Fresh}
 use Rattle.promise.proofs.Holds.{U, ends, Holds, Pathed, Slotted, stay-path, stay-slot, same-path, no-path, same-slot, no-slot, other-unended, page-unended, quiet-unended, words-store, words-kept, cr3-written, cr3-other, cr3-kept}
+use Rattle.slots.specs.Slots.{slotCount, markOf, pageIn, emptySlots}
+use Rattle.paging.proofs.Counts.{by-cases}
+use Rattle.shadow.specs.Refusals.{callRefusal}
+use Rattle.shadow.specs.Moves.{afterStore, afterInvlpg, afterCr3, afterBegin, afterDrop}
 
 module _ (F : Fresh) (es : List Event) (k : ℕ) (s : State) (h : Holds F es k s)
     (ok : callRefusal (F .machine) (F .map) s (eventAt es k) ≡ 0) where

@@ -14,9 +14,7 @@ use Rattle.paging.proofs.Rights.{meet-small}
 use Rattle.rules.specs.declared.Event.{Event}
 use Rattle.rules.specs.History.{eventAt}
 use Rattle.rules.specs.View.{View}
-use Rattle.tables.specs.State.{Machine, State, stateOf, markOf, pageIn, placeIn, rightsIn, withSlot, nextEntry, pathTo}
-use Rattle.tables.proofs.Counts.{by-cases}
-use Rattle.shadow.specs.After.{afterExtend, callRefusal}
+use Rattle.tables.specs.State.{Machine, State, stateOf, nextEntry, pathTo}
 use Rattle.shadow.proofs.Accepted.{accepted-map}
 use Rattle.trees.proofs.Trees.{Able}
 use Rattle.trees.proofs.Slots.{Room, with-other, with-mark, with-page, with-place, with-rights}
@@ -27,6 +25,10 @@ use Rattle.promise.specs.Demand.{Fresh}
 use Rattle.promise.proofs.Settles.{Backed}
 use Rattle.promise.proofs.Holds.{seen, ends, Holds, Behind, stay-backed, quiet-unended}
 use Rattle.promise.proofs.Carries.{After, sized, fits, hp, here, one-slot, still}
+use Rattle.slots.specs.Slots.{markOf, pageIn, placeIn, rightsIn, withSlot}
+use Rattle.paging.proofs.Counts.{by-cases}
+use Rattle.shadow.specs.Moves.{afterExtend}
+use Rattle.shadow.specs.Refusals.{callRefusal}
 
 module _ (F : Fresh) (es : List Event) (k : ℕ) (s : State) (h : Holds F es k s)
     (ok : callRefusal (F .machine) (F .map) s (eventAt es k) ≡ 0) (six : eventAt es k .kind ≡ 6) (low : eventAt es k .a < 8) where

@@ -16,9 +16,9 @@ use Rattle.paging.proofs.Indices.{index-small}
 use Rattle.rules.specs.View.{View}
 use Rattle.rules.specs.Coherent.{Coherent}
 use Rattle.rules.specs.Kept.{Kept, extend}
-use Rattle.tables.specs.declared.Walked.{Walked}
-use Rattle.tables.specs.declared.Walked.the-variants.{Whole, Fault}
-use Rattle.tables.specs.Steps.{GuestWalk, byStep, walkFrom}
+use Rattle.guest.specs.declared.Walked.{Walked}
+use Rattle.guest.specs.declared.Walked.the-variants.{Whole, Fault}
+use Rattle.guest.specs.GuestWalk.{GuestWalk, byStep, walkFrom}
 use Rattle.keeps.proofs.Alikes.{Same, same-trans, same-with-bit, same-step}
 
 module _ (Y : Layout) (sound : Sound Y) (seen : View) (G page k : ℕ) (rules : List ℕ) (law : Coherent seen (Y .levels) G)

@@ -16,7 +16,7 @@ use Rattle.rules.specs.View.{View, viewOf, never}
 use Rattle.rules.specs.Kept.{stay}
 use Rattle.rules.proofs.Views.{other-idle, page-idle, kind-idle}
 use Rattle.tables.specs.declared.Path.{Path}
-use Rattle.tables.specs.State.{Machine, State, slotCount, markOf, pageIn, placeIn, rightsIn, rootOf, nextEntry, pathTo}
+use Rattle.tables.specs.State.{Machine, State, rootOf, nextEntry, pathTo}
 use Rattle.trees.proofs.Trees.{shd}
 use Rattle.trees.proofs.Paths.{FullSame}
 use Rattle.trees.proofs.Slots.{SameSlot}
@@ -26,6 +26,7 @@ use Rattle.keeps.proofs.RightStates.{RightState}
 use Rattle.promise.specs.Demand.{Fresh, guestOf}
 use Rattle.promise.proofs.Settles.{Backed}
 use Rattle.paging.specs.Sound.{Laid}
+use Rattle.slots.specs.Slots.{slotCount, markOf, pageIn, placeIn, rightsIn}
 
 module _ (F : Fresh) (es : List Event) where
   abbrev M : Machine

@@ -20,7 +20,6 @@ use Rattle.shadow.specs.declared.Answer.{Answer}
 use Rattle.shadow.specs.declared.Answer.the-variants.{Done, Address, Again}
 use Rattle.paging.specs.Frame.{mapFits, cr3sFit}
 use Rattle.paging.proofs.Tests.{both}
-use Rattle.shadow.specs.After.{Result, rangesFit, lengthsFit, poolFits, inPool, framesFit, rooted, setupRefusal}
 use Rattle.trees.proofs.Entries.{laid64}
 use Rattle.promise.specs.Demand.{Fresh, Run, guestOf, does, stateAt, before, answerAt, Says, place, code, Settles, SettlesInTwo}
 use Rattle.promise.specs.Known.{KnownRun, runOf, Answers, AllAnswer, runs, stored, narrowed, beside, slotted, crowded, written}
@@ -29,6 +28,9 @@ use Rattle.promise.proofs.Lossless.{none-lost}
 use Rattle.promise.proofs.Started.{accepted}
 use Rattle.promise.proofs.Theorems.{demand-three}
 use Rattle.paging.specs.Sound.{Laid}
+use Rattle.shadow.specs.Answer.{Result}
+use Rattle.shadow.specs.Refusals.{rangesFit, lengthsFit, poolFits, inPool, framesFit, setupRefusal}
+use Rattle.shadow.specs.Setup.{rooted}
 use Rattle.keeps.proofs.Events as events
 use Rattle.promise.specs.Demand as D
 

@@ -9,8 +9,9 @@ use native.Mathlib.Omega.{arith}
 use lib.ListN.{length}
 use Rattle.paging.specs.Numbers.{each}
 use Rattle.rules.specs.declared.Event.{Event}
-use Rattle.tables.specs.State.{State, slotCount, emptied}
-use Rattle.tables.proofs.Counts.{by-cases}
+use Rattle.tables.specs.State.{State}
+use Rattle.slots.specs.Slots.{slotCount, emptied}
+use Rattle.paging.proofs.Counts.{by-cases}
 use Rattle.trees.proofs.Slots.{SameSlot, Empty, Room, same-self, same-on, same-empty, with-length, with-other, emptied-here, Local, each-length, each-other, each-here}
 use Rattle.trees.proofs.SlotRules.{empty-right, same-right}
 use Rattle.promise.specs.Demand.{Fresh, Losses, losing}

@@ -4,7 +4,8 @@ use mathlib.Core.Bool.{false}
 use mathlib.Core.List.{List}
 use Prim.Native.Nat.{ℕ, zero, suc}
 use Rattle.paging.specs.Numbers.{each}
-use Rattle.tables.specs.State.{Machine, State, slotCount}
+use Rattle.tables.specs.State.{Machine, State}
+use Rattle.slots.specs.Slots.{slotCount}
 use Rattle.promise.specs.Demand.{losing}
 
 idle : (n : ℕ) {A : Type 0} (x : A) → each n (λ k y. y) x ≡ x

@@ -16,15 +16,22 @@ use Rattle.rules.specs.declared.Event.{Event}
 use Rattle.rules.specs.Refusal.{refusal}
 use Rattle.rules.specs.History.{eventRefusal}
 use Rattle.tables.specs.State.{Machine, named, descend, lowest}
-use Rattle.tables.specs.Steps.{servingSlot, flush, flushed, walkFrom, leafOf, freeCount, taken, settle, build, freeTable}
+use Rattle.tables.specs.Steps.{leafOf, freeCount, taken, settle, build, freeTable}
 use Rattle.shadow.specs.declared.Answer.the-variants.{Done, Address, Fault, Again}
-use Rattle.shadow.specs.After.{rangesFit, lengthsFit, poolFits, inPool, framesFit, moved, dirtied, leafCleared, afterInvlpg, fill, afterMiss, afterAccess, rooted, setupRefusal}
+use Rattle.shadow.specs.After.{moved}
 use Rattle.trees.proofs.Entries.{laid32}
 use Rattle.promise.specs.Demand.{Accepts, Demand, SettlesInTwo}
 use Rattle.promise.specs.Known.{KnownRun, runOf, Answers}
 use Rattle.promise.proofs.Quick.{answersBy, Quick}
 use Rattle.promise.proofs.Known.{runFits, known-setup, known-fits, answers}
 use Rattle.promise.proofs.Theorems.{every-event-taken, demand-three}
+use Rattle.slots.specs.Slots.{servingSlot, flush, flushed}
+use Rattle.guest.specs.GuestWalk.{walkFrom, dirtied}
+use Rattle.shadow.specs.Refusals.{rangesFit, lengthsFit, poolFits, inPool, framesFit, setupRefusal}
+use Rattle.shadow.specs.Moves.{leafCleared, afterInvlpg}
+use Rattle.shadow.specs.Fill.{fill}
+use Rattle.shadow.specs.Access.{afterMiss, afterAccess}
+use Rattle.shadow.specs.Setup.{rooted}
 
 pub every-event-taken-32 : Accepts tables32
 every-event-taken-32 = every-event-taken tables32 laid32

@@ -12,12 +12,21 @@ use Rattle.rules.specs.declared.Event.{Event}
 use Rattle.rules.specs.History.{eventAt}
 use Rattle.rules.proofs.Numbers.{tab-same}
 use Rattle.tables.specs.State.{Machine, State, named, descend}
-use Rattle.tables.specs.Steps.{servingSlot, flush, flushed, emptySlots, walkFrom, leafOf, zeroed, freeCount, taken, settle, build, freeTable, emptyShare}
+use Rattle.tables.specs.Steps.{leafOf, zeroed, freeCount, taken, settle, build, freeTable, emptyShare}
+use Rattle.slots.specs.Slots.{emptySlots}
 use Rattle.shadow.specs.declared.Answer.{Answer}
-use Rattle.shadow.specs.After.{Result, decode, moved, dirtied, leafCleared, afterInvlpg, afterBegin, placeBelow, afterExtend, afterDrop, fill, afterMiss, afterAccess, rooted}
-use Rattle.promise.specs.Demand as D
+use Rattle.shadow.specs.After.{moved}
+use Rattle.shadow.specs.Moves.{afterBegin, placeBelow, afterExtend, afterDrop}
 use Rattle.promise.specs.Demand.{doneBy}
 use Rattle.promise.specs.Known.{KnownRun, stored, narrowed, beside, slotted, crowded, written}
+use Rattle.slots.specs.Slots.{servingSlot, flush, flushed}
+use Rattle.guest.specs.GuestWalk.{walkFrom, dirtied}
+use Rattle.shadow.specs.Answer.{Result}
+use Rattle.shadow.specs.Moves.{decode, leafCleared, afterInvlpg}
+use Rattle.shadow.specs.Fill.{fill}
+use Rattle.shadow.specs.Access.{afterMiss, afterAccess}
+use Rattle.shadow.specs.Setup.{rooted}
+use Rattle.promise.specs.Demand as D
 
 -- ---- one event after the other, each once
 

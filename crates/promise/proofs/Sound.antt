@@ -9,7 +9,7 @@ use lib.ListN.{length}
 use borrow.Author.Tests.{eqb-true}
 use Rattle.paging.specs.declared.Guest.{Guest}
 use Rattle.paging.specs.declared.Request.{Request}
-use Rattle.paging.specs.Frame.{guest, host, hostOf}
+use Rattle.paging.specs.Frame.{guest, host, hostOf, hostAddress}
 use Rattle.paging.specs.Layout.{pageOf}
 use Rattle.paging.specs.Request.{requestOf, enough}
 use Rattle.paging.proofs.Rights.{needs-small}
@@ -20,12 +20,9 @@ use Rattle.rules.specs.View.{View}
 use Rattle.rules.specs.Outcome.{Permitted}
 use Rattle.rules.specs.Coherent.{Coherent}
 use Rattle.rules.proofs.Theorems.{a-list, list-before}
-use Rattle.tables.specs.declared.Walked.{Walked}
-use Rattle.tables.specs.declared.Walked.the-variants.{Fault}
-use Rattle.tables.specs.State.{Machine, State, slotCount, markOf, pageIn, placeIn, rightsIn}
-use Rattle.tables.specs.Steps.{slotServes}
+use Rattle.tables.specs.State.{Machine, State}
 use Rattle.shadow.specs.declared.Answer.the-variants.{Again, Address, Fault as Faulted}
-use Rattle.shadow.specs.After.{Result, valueAt, after}
+use Rattle.shadow.specs.After.{after}
 use Rattle.paging.proofs.Tests.{both}
 use Rattle.shadow.proofs.Accepted.{accepted-own}
 use Rattle.trees.proofs.SlotRules.{right-complete}
@@ -39,6 +36,10 @@ use Rattle.promise.proofs.Holds.{seen, Holds}
 use Rattle.promise.proofs.Accessed.{law, reads, rules, walk-ends, walk-held}
 use Rattle.promise.proofs.Started.{holds-before, accepted}
 use Rattle.paging.specs.Sound.{Laid}
+use Rattle.guest.specs.declared.Walked.{Walked}
+use Rattle.guest.specs.declared.Walked.the-variants.{Fault}
+use Rattle.slots.specs.Slots.{slotCount, markOf, pageIn, placeIn, rightsIn, slotServes}
+use Rattle.shadow.specs.Answer.{Result}
 use Rattle.promise.specs.Demand as D
 
 module _ (F : Fresh) (laid : Laid (F .machine .tables)) (fresh : D.SetupFits F) (r : Run) (fit : Fit (guestOf F) (r .events)) (k : ℕ) (hk : k < length (r .events)) where
@@ -90,7 +91,7 @@ module _ (F : Fresh) (laid : Laid (F .machine .tables)) (fresh : D.SetupFits F) 
 
   -- an address, from a held walk behind it
   answered : (g : Guest) (rights : ℕ) → g .0 < M .frames → Backed view k g rights → q .needs < 8 → enough q rights ≡ true
-      → answerAt F r k ≡ Address (valueAt (hostOf (F .map) g) (e .a)) → Settles F r k
+      → answerAt F r k ≡ Address (hostAddress (hostOf (F .map) g) (e .a)) → Settles F r k
   answered g rights inside b small good o =
       stands (rw o (place inside))
       (address-permitted view lawful q k g rights small b good)
@@ -103,7 +104,7 @@ module _ (F : Fresh) (laid : Laid (F .machine .tables)) (fresh : D.SetupFits F) 
       (eqb-true (markOf (s .slots) p j) 1 mark, eqb-true (pageIn (s .slots) p j) v page, good)
 
   by-slot : q .needs < 8 → (j : ℕ) → j < slotCount → slotServes (s .slots) p v q j ≡ true
-      → answerAt F r k ≡ Address (valueAt (hostOf (F .map) (guest (placeIn (s .slots) p j))) (e .a)) → Settles F r k
+      → answerAt F r k ≡ Address (hostAddress (hostOf (F .map) (guest (placeIn (s .slots) p j))) (e .a)) → Settles F r k
   by-slot small j hj t o =
       let (mark, page, good) = slot-tests j t in
       answered (guest (placeIn (s .slots) p j)) (rightsIn (s .slots) p j)
@@ -127,7 +128,7 @@ module _ (F : Fresh) (laid : Laid (F .machine .tables)) (fresh : D.SetupFits F) 
   way small (slot j hj t o) = inr (by-slot small j hj t (answer-of o))
   way small (shadow here good o) =
       let b = h .paths p hp v (page-small (M .tables) (e .a)) .full here in
-      inr (answered (b .frame) _ (b .inside) (b .backed) small good (answer-of o ∙ ap (λ (f : ℕ). Address (valueAt (host f) (e .a))) (b .mapped)))
+      inr (answered (b .frame) _ (b .inside) (b .backed) small good (answer-of o ∙ ap (λ (f : ℕ). Address (hostAddress (host f) (e .a))) (b .mapped)))
   way small (faulted base x o) = inr (by-fault (walk-ends F (r .events) k s h p hp (e .a) (e .b)) base x (answer-of o))
   way small (lacks last w x bad o) =
       let held = walk-held F (r .events) k s h p hp (e .a) (e .b) last w x in

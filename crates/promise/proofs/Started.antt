@@ -7,7 +7,6 @@ use lib.Dec.{eqb}
 use lib.ListN.{length}
 use Rattle.rules.specs.History.{Fit, eventAt, wordsAt, cr3At}
 use Rattle.tables.specs.State.{Machine, State}
-use Rattle.shadow.specs.After.{rangesFit, lengthsFit, framesFit, callRefusal}
 use Rattle.shadow.proofs.Sizing.{Ranged}
 use Rattle.shadow.proofs.Starting.{accepted-sizes, setup-exact, setup-ranged, setup-room}
 use Rattle.paging.specs.Sound.{Laid}
@@ -18,12 +17,13 @@ use Rattle.keeps.proofs.Alikes.{same-refl}
 use Rattle.keeps.proofs.RightStates.{Mapped, RightState}
 use Rattle.keeps.proofs.Events.{mapped}
 use Rattle.keeps.proofs.Accepts.{same-tests, accepts}
-use Rattle.promise.specs.Demand as D
 use Rattle.promise.specs.Demand.{Fresh, Run, guestOf, stateAt, before}
 use Rattle.promise.proofs.Begun.{begun-entries, begun-frame, begun-slots, begun-triples, begun-trees}
 use Rattle.promise.proofs.Holds.{Holds, no-path, no-slot}
 use Rattle.promise.proofs.Carried.{carried}
 use Rattle.promise.proofs.Losing.{losing-holds}
+use Rattle.shadow.specs.Refusals.{rangesFit, lengthsFit, framesFit, callRefusal}
+use Rattle.promise.specs.Demand as D
 
 module _ (F : Fresh) (laid : Laid (F .machine .tables)) (fresh : D.SetupFits F) where
   abbrev M : Machine

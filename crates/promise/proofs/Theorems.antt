@@ -11,7 +11,6 @@ use Rattle.paging.specs.Request.{requestOf}
 use Rattle.rules.specs.declared.Event.{Event}
 use Rattle.rules.specs.History.{Fit, eventAt}
 use Rattle.tables.specs.State.{State}
-use Rattle.tables.proofs.Counts.{by-cases}
 use Rattle.shadow.specs.declared.Answer.the-variants.{Address, Again}
 use Rattle.shadow.specs.After.{after}
 use Rattle.shadow.proofs.Accepted.{accepted-own}
@@ -19,11 +18,12 @@ use Rattle.paging.specs.Sound.{Laid}
 use Rattle.keeps.proofs.Again.{Serves}
 use Rattle.keeps.proofs.EventsKeep.{again-serves, served-address}
 use Rattle.keeps.proofs.Theorems.{never-refused}
-use Rattle.promise.specs.Demand as D
 use Rattle.promise.specs.Demand.{Fresh, Run, guestOf, stateAt, before, answerAt, Settles, mayStandBetween, Accepts, Demand, losing}
 use Rattle.promise.proofs.Started.{accepted}
 use Rattle.promise.proofs.Sound.{sound}
 use Rattle.promise.proofs.Between.{serves-by, serves-still}
+use Rattle.paging.proofs.Counts.{by-cases}
+use Rattle.promise.specs.Demand as D
 
 -- NO EVENT THAT FITS IS REFUSED
 pub every-event-taken : (Y : Layout) → Laid Y → Accepts Y

@@ -10,7 +10,7 @@ use lib.Dec.{T}
 use lib.ListN.{length, take}
 use Rattle.paging.specs.declared.Guest.{Guest}
 use Rattle.paging.specs.Numbers.{each}
-use Rattle.paging.specs.Frame.{hostOf}
+use Rattle.paging.specs.Frame.{hostOf, hostAddress}
 use Rattle.paging.specs.Layout.{Layout, frameWords}
 use Rattle.rules.specs.declared.Event.{Event}
 use Rattle.rules.specs.declared.Question.{Question}
@@ -18,10 +18,14 @@ use Rattle.rules.specs.declared.Outcome.{Outcome}
 use Rattle.rules.specs.declared.Outcome.the-variants.{Address as address, Fault as fault}
 use Rattle.rules.specs.History.{Setup, Fit, isStore, isAccess, isBegin, isExtend, isDrop, isBy, eventAt}
 use Rattle.rules.specs.Outcome.{RightAt}
-use Rattle.tables.specs.State.{Machine, State, stateOf, slotCount, emptied}
+use Rattle.tables.specs.State.{Machine, State, stateOf}
 use Rattle.shadow.specs.declared.Answer.{Answer}
 use Rattle.shadow.specs.declared.Answer.the-variants.{Address, Fault, Again, Refused}
-use Rattle.shadow.specs.After.{Result, valueAt, after, started, setupRefusal}
+use Rattle.shadow.specs.After.{after}
+use Rattle.slots.specs.Slots.{slotCount, emptied}
+use Rattle.shadow.specs.Answer.{Result}
+use Rattle.shadow.specs.Setup.{started}
+use Rattle.shadow.specs.Refusals.{setupRefusal}
 
 -- what a machine is set up with
 pub record Fresh : Type 0 where
@@ -94,7 +98,7 @@ module _ (F : Fresh) (r : Run) where
 
   -- an answer to an access to a says an outcome: an address in the host frame of a guest frame, or a fault's code
   pub data Says (a : ℕ) : Answer → Outcome → Type 0 where
-    place : {g : Guest} → g .0 < F .machine .frames → Says a (Address (valueAt (hostOf (F .map) g) a)) (address g)
+    place : {g : Guest} → g .0 < F .machine .frames → Says a (Address (hostAddress (hostOf (F .map) g) a)) (address g)
     code : {c : ℕ} → Says a (Fault c) (fault c)
 
   -- the put at moment k ends in an outcome that stands in the list for the events before it

@@ -4,8 +4,8 @@ use mathlib.Core.List.{List, [], _∷_, _++_}
 use Prim.Native.Nat.{ℕ, suc, _+_, _*_, _/_, _≤_, _<_}
 use native.Mathlib.Numerals.{add-one}
 use native.Mathlib.Omega.{arith}
-use lib.ListN.{length, take, drop, getD, set, replicate, length-set, length-replicate, take-append-drop, replicate-append-replicate, drop-of-length-le}
-use lib.Seq.{drop-cons, getD-take, take-suc-set, length-take-le, set-append-left}
+use lib.ListN.{length, take, drop, getD, set, length-set, take-append-drop, drop-of-length-le}
+use lib.Seq.{drop-cons, getD-take, length-take-le, set-append-left}
 use Rattle.puzzle.specs.declared.ReadResult.{ReadResult}
 use Rattle.puzzle.specs.declared.ReadResult.the-variants.{Accepted, Refused}
 use Rattle.sections.specs.Sections.{Puzzle, puzzleOf}
@@ -25,17 +25,6 @@ kept-laid {old} {new} {n} k =
     let e = length-take-le n new (k .fits) in
     laid-by (take n new) new old (ap (λ (i : ℕ). take i new) e)
     (ap (λ (i : ℕ). drop i new) e ∙ k .stays ∙ ap (λ (i : ℕ). drop i old) (sym e))
-
--- ---- zeros
-
-pub zeros-more : (l : List ℕ) (i : ℕ) → i < length l → take i l ≡ replicate i 0 → take (i + 1) (set l i 0) ≡ replicate (i + 1) 0
-zeros-more l i h e =
-    ap (λ (k : ℕ). take k (set l i 0)) (add-one i) ∙ take-suc-set l i 0 h ∙ ap (λ (m : List ℕ). m ++ 0 ∷ []) e ∙ replicate-append-replicate i 1 0
-
-pub zeros-all : (l old : List ℕ) (n : ℕ) → take n l ≡ replicate n 0 → drop n l ≡ drop n old → l ≡ laid (replicate n 0) old
-zeros-all l old n t d =
-    let e = length-replicate {A = ℕ} n 0 in
-    laid-by (replicate n 0) l old (ap (λ (i : ℕ). take i l) e ∙ t) (ap (λ (i : ℕ). drop i l) e ∙ d ∙ ap (λ (i : ℕ). drop i old) (sym e))
 
 -- ---- pairs of word and value
 

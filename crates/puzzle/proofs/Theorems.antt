@@ -15,7 +15,7 @@ use Rattle.rules.specs.Numbers.{eventOf, questionOf}
 use Rattle.puzzle.specs.Setup.{setupOf, InEvent}
 use Rattle.puzzle.proofs.Accepted.{accepted}
 use Rattle.puzzle.proofs.Fills.{length-stored}
-use Rattle.puzzle.proofs.Fits.{event-in, event-out, frame-below, frames-differ, cr3-below, event-fits, question-fits}
+use Rattle.puzzle.proofs.Fits.{frame-below, frames-differ, cr3-below, event-fits, question-fits, event-written, written-event}
 use Rattle.paging.specs.Frame.{Distinct}
 use Rattle.puzzle.specs.Lines.{InRange, linesOf}
 use Rattle.puzzle.proofs.Back.{lines-back}
@@ -43,11 +43,8 @@ pub lines-accepted : (z : Puzzle) → InRange z → puzzleOf (linesOf z) ≡ got
 lines-accepted = lines-back
 
 -- 11 STANDS FOR 4 TO 9 AND FOR THE RULES' OWN 11: the four numbers of an event are in range if and only if the rules do not refuse it
-pub ranges-right : (G P : ℕ) (words cr3s : List ℕ) (e : Event) → eventRefusal (setup64 G P words cr3s) e ≡ 0 ↔ InEvent G P (e .kind) (e .proc) (e .a) (e .b)
-ranges-right G P words cr3s e = (
-  event-out G P words cr3s (e .kind) (e .proc) (e .a) (e .b),
-  λ i. event-in G P words cr3s (e .kind) (e .proc) (e .a) (e .b) (i .processor) (i .kinds .0) (i .kinds .1) (i .first) (i .second),
-)
+pub ranges-right : (G P : ℕ) → 0 < G → (words cr3s : List ℕ) (e : Event) → eventRefusal (setup64 G P words cr3s) e ≡ 0 ↔ InEvent G P e
+ranges-right G P some words cr3s e = (event-written G P some words cr3s e, λ i. written-event G P words cr3s e i)
 
 -- OF AN ACCEPTED TEXT NOTHING IS REFUSED LATER
 module _ (text : List ℕ) {z : Puzzle} {at : ℕ} (e : puzzleOf text ≡ got z at) where

@@ -7,6 +7,7 @@ use lib.ListN.{length, drop, set, replicate}
 use Rattle.paging.specs.Layout.{frameWords}
 use Rattle.puzzle.specs.declared.ReadResult.{ReadResult}
 use Rattle.puzzle.specs.declared.ReadResult.the-variants.{Accepted, Refused}
+use Rattle.sections.specs.Sizes.{mostFrames, mostProcessors, textSize, wordsSize, eventsSize, questionsSize}
 use Rattle.sections.specs.Sections.{Got, got, refused, Puzzle, puzzleOf}
 
 pub record Buffers : Type 0 where
@@ -68,8 +69,8 @@ answer m b = after (verdictOf m) (changed m b)
 -- "a length … outside Sizes"; "1 (over-long, line 0) first": the programs take 65,536 bytes of text
 abbrev pub sized : List ℕ → Buffers → Bool
 sized text b =
-    leb (length text) 65536 && eqb (length (b .map)) 16 && eqb (length (b .cr3s)) 4 && eqb (length (b .words)) 8192
-    && eqb (length (b .events)) 1024 && eqb (length (b .questions)) 48
+    leb (length text) textSize && eqb (length (b .map)) mostFrames && eqb (length (b .cr3s)) mostProcessors && eqb (length (b .words)) wordsSize
+    && eqb (length (b .events)) eventsSize && eqb (length (b .questions)) questionsSize
 
 unfoldable pub readCall : List ℕ → Buffers → After
 readCall text b = cond (sized text b) (answer (puzzleOf text) b) (after (Refused 1 0) b)

@@ -15,6 +15,7 @@ use Rattle.sections.specs.PartsCode.{Kept, PartIs}
 use Rattle.puzzle.specs.declared.ReadResult.{ReadResult}
 use Rattle.puzzle.specs.declared.ReadResult.the-variants.{Accepted, Refused}
 use Rattle.puzzle.specs.Buffers.{Buffers}
+use Rattle.sections.specs.Sizes.{mostFrames, mostProcessors, wordsSize, pairsSize, eventsSize, questionsSize}
 
 -- the count of a section; 0 of one that was refused
 abbrev pub countOf : Part → ℕ
@@ -46,11 +47,11 @@ fronts b i j k l m = lists (take i (b .map)) (take j (b .cr3s)) (take k (b .pair
 
 -- as many elements as the longest sections have numbers
 pub record LongEnough (b : Puzzle) : Type 0 where
-  pub map : length (b .map) ≡ 16
-  pub cr3s : length (b .cr3s) ≡ 4
-  pub pairs : length (b .pairs) ≡ 16384
-  pub events : length (b .events) ≡ 1024
-  pub questions : length (b .questions) ≡ 48
+  pub map : length (b .map) ≡ mostFrames
+  pub cr3s : length (b .cr3s) ≡ mostProcessors
+  pub pairs : length (b .pairs) ≡ pairsSize
+  pub events : length (b .events) ≡ eventsSize
+  pub questions : length (b .questions) ≡ questionsSize
 
 -- the text is a puzzle with these counts, and it stands in the buffers
 pub record Whole (text : List ℕ) (old new : Puzzle) (g p w e q : ℕ) : Type 0 where
@@ -71,11 +72,11 @@ WordsBelow n pairs = (i : ℕ) → i * 2 < length pairs → getD pairs (i * 2) 0
 
 -- the lent buffers have their lengths
 pub record Lengths (b : Buffers) : Type 0 where
-  pub map : length (b .map) ≡ 16
-  pub cr3s : length (b .cr3s) ≡ 4
-  pub words : length (b .words) ≡ 8192
-  pub events : length (b .events) ≡ 1024
-  pub questions : length (b .questions) ≡ 48
+  pub map : length (b .map) ≡ mostFrames
+  pub cr3s : length (b .cr3s) ≡ mostProcessors
+  pub words : length (b .words) ≡ wordsSize
+  pub events : length (b .events) ≡ eventsSize
+  pub questions : length (b .questions) ≡ questionsSize
 
 abbrev pub accepts : Got Puzzle → Bool
 accepts (got z at) = true

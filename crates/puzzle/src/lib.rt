@@ -95,9 +95,7 @@ fn clear(words: &mut [u64], n: usize)
     requires { ⌜ n ≤ length (now words) ⌝ }
     ensures { λ _. ⌜ now (words .exit) ≡ laid (replicate n 0) (now (words .entry)) ⌝ }
 {
-    for i in 0..n {
-        words[i] = 0;
-    }
+    paging::zero(&mut words[..n]);
 }
 
 fn store_pairs(words: &mut [u64], pairs: &[u64], n: usize)
@@ -114,11 +112,11 @@ fn store_pairs(words: &mut [u64], pairs: &[u64], n: usize)
 fn verdict(text: &[u8]) -> ReadResult
     ensures { λ r. ⌜ r ≡ verdictOf (puzzleOf (now (text .entry))) ⌝ }
 {
-    let mut map = [0u64; 16];
-    let mut cr3s = [0u64; 4];
-    let mut pairs = [0u64; 16384];
-    let mut events = [0u64; 1024];
-    let mut questions = [0u64; 48];
+    let mut map = [0u64; sections::MOST_FRAMES];
+    let mut cr3s = [0u64; sections::MOST_PROCESSORS];
+    let mut pairs = [0u64; sections::PAIRS_SIZE];
+    let mut events = [0u64; sections::EVENTS_SIZE];
+    let mut questions = [0u64; sections::QUESTIONS_SIZE];
     read_sections(
         text,
         &mut map,
@@ -141,7 +139,7 @@ fn fill(
     requires { ⌜ Lengths (buffers (now map) (now cr3s) (now words) (now events) (now questions)) × (accepts (puzzleOf (now text)) ≡ true) ⌝ }
     ensures { λ r. ⌜ after r (buffers (now (map .exit)) (now (cr3s .exit)) (now (words .exit)) (now (events .exit)) (now (questions .exit))) ≡ answer (puzzleOf (now (text .entry))) (buffers (now (map .entry)) (now (cr3s .entry)) (now (words .entry)) (now (events .entry)) (now (questions .entry))) ⌝ }
 {
-    let mut pairs = [0u64; 16384];
+    let mut pairs = [0u64; sections::PAIRS_SIZE];
     let counts = read_sections(text, map, cr3s, &mut pairs, events, questions);
     match counts {
         ReadResult::Refused(number, line) => ReadResult::Refused(number, line),
@@ -152,7 +150,7 @@ fn fill(
             events: _,
             questions: _,
         } => {
-            clear(words, 512 * (frames as usize));
+            clear(words, paging::FRAME_WORDS * (frames as usize));
             store_pairs(words, &pairs, n as usize);
             counts
         }
@@ -170,22 +168,22 @@ pub fn read(
 ) -> ReadResult
     ensures { λ r. ⌜ after r (buffers (now (map .exit)) (now (cr3s .exit)) (now (words .exit)) (now (events .exit)) (now (questions .exit))) ≡ readCall (now (text .entry)) (buffers (now (map .entry)) (now (cr3s .entry)) (now (words .entry)) (now (events .entry)) (now (questions .entry))) ⌝ }
 {
-    if text.len() > 65536 {
+    if text.len() > sections::TEXT_SIZE {
         return ReadResult::Refused(1, 0);
     }
-    if map.len() != 16 {
+    if map.len() != sections::MOST_FRAMES {
         return ReadResult::Refused(1, 0);
     }
-    if cr3s.len() != 4 {
+    if cr3s.len() != sections::MOST_PROCESSORS {
         return ReadResult::Refused(1, 0);
     }
-    if words.len() != 8192 {
+    if words.len() != sections::WORDS_SIZE {
         return ReadResult::Refused(1, 0);
     }
-    if events.len() != 1024 {
+    if events.len() != sections::EVENTS_SIZE {
         return ReadResult::Refused(1, 0);
     }
-    if questions.len() != 48 {
+    if questions.len() != sections::QUESTIONS_SIZE {
         return ReadResult::Refused(1, 0);
     }
     match verdict(text) {

@@ -2,14 +2,15 @@
 use mathlib.Core.Path.{_≡_}
 use mathlib.Core.Bool.{cond}
 use mathlib.Core.List.{List, [], _∷_, _++_}
-use Prim.Native.Nat.{ℕ, _+_, _*_, _/_, _%_, _^_, _<_}
+use Prim.Native.Nat.{ℕ, _+_, _*_, _/_, _^_, _<_}
 use lib.Dec.{eqb}
 use lib.ListN.{length, getD}
+use Rattle.paging.specs.Frame.{guest, hostOf, hostAddress}
 use Rattle.rules.specs.declared.Question.{Question}
 use Rattle.render.specs.Render.{line}
 
 unfoldable pub pairLine : List ℕ → ℕ → ℕ → ℕ → List ℕ
-pairLine map addr tag v = cond (eqb tag 0) (line 65 (v ∷ (getD map v 0 * 4096 + addr % 4096) ∷ [])) (line 70 (v ∷ []))
+pairLine map addr tag v = cond (eqb tag 0) (line 65 (v ∷ hostAddress (hostOf map (guest v)) addr ∷ [])) (line 70 (v ∷ []))
 
 unfoldable pub pairLines : List ℕ → ℕ → List ℕ → List ℕ
 pairLines map addr (tag ∷ v ∷ ns) = pairLine map addr tag v ++ pairLines map addr ns

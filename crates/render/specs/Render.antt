@@ -1,9 +1,9 @@
 -- What `answers` and `run` print, as the list of its bytes.
 use mathlib.Core.List.{List, [], _∷_, _++_}
-use Prim.Native.Nat.{ℕ, _+_, _*_, _%_}
+use Prim.Native.Nat.{ℕ, _+_}
 use lib.ListN.{length}
 use Rattle.cursor.specs.Text.{spaced}
-use Rattle.paging.specs.Frame.{hostOf}
+use Rattle.paging.specs.Frame.{hostOf, hostAddress}
 use Rattle.rules.specs.declared.Question.{Question}
 use Rattle.rules.specs.declared.Outcome.{Outcome}
 use Rattle.rules.specs.declared.Outcome.the-variants.{Address, Fault}
@@ -18,7 +18,7 @@ renderRefusal number at = line 82 (number ∷ at ∷ [])
 
 -- "`A frame hostaddress` and `F code` lines": an address is "the address in its mapped host frame"
 abbrev pub renderOutcome : List ℕ → ℕ → Outcome → List ℕ
-renderOutcome map addr (Address f) = line 65 (f .0 ∷ (hostOf map f .0 * 4096 + addr % 4096) ∷ [])
+renderOutcome map addr (Address f) = line 65 (f .0 ∷ hostAddress (hostOf map f) addr ∷ [])
 renderOutcome map addr (Fault code) = line 70 (code ∷ [])
 
 unfoldable pub renderOutcomes : List ℕ → ℕ → List Outcome → List ℕ

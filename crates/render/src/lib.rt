@@ -55,7 +55,8 @@ fn put_outcome(out: &mut [u8], at: usize, map: &[u64], addr: u64, tag: u64, v: u
 {
     if tag == 0 {
         let host = paging::host_of(map, Guest(v));
-        return put_line(out, at, b'A', &[v, host.0 * 4096 + addr % 4096]);
+        let address = paging::host_address(host, addr);
+        return put_line(out, at, b'A', &[v, address]);
     }
     put_line(out, at, b'F', &[v])
 }

@@ -3,10 +3,8 @@ use mathlib.Core.Path.{_≡_, refl, sym, ap₂, _∙_}
 use mathlib.Core.Logic.{_↔_, _⊎_, inl, inr}
 use mathlib.Core.Bool.{Bool, true, false, cond}
 use mathlib.Core.List.{List, [], _∷_, List·Memᴰ, List·Memᴰ·head, List·Memᴰ·tail, List·Memᴰ·cases-cons, List·Memᴰ·not-nil}
-use Prim.Native.Nat.{suc, _≤_}
 use native.Mathlib.Omega.{arith}
 use lib.Dec.{T}
-use lib.ListN.{length}
 use Rattle.rules.specs.declared.Outcome.{Outcome}
 use Rattle.rules.specs.declared.Outcome.the-variants.{Address, Fault}
 use Rattle.rules.specs.Outcome.{Before, Rises}
@@ -40,29 +38,11 @@ module _ {A : Type 0} where
       go false e (inl q) ih = absurd (rw (q, e) at t)
       go false e (inr k) ih = ih k
 
-  pub keep-length : (p : A → Bool) (xs : List A) → length (keep p xs) ≤ length xs
-  unfolding keep
-  keep-length p [] = omega arith
-  keep-length p (x ∷ xs) = cases (p x) (keep-length p xs)
-    where
-      cases : (b : Bool) → length (keep p xs) ≤ length xs → length (cond b (x ∷ keep p xs) (keep p xs)) ≤ suc (length xs)
-      cases true h = omega arith
-      cases false h = omega arith
-
 before-asym : (a b : Outcome) → Before a b → Before b a → ⊥
 before-asym (Address f) (Address g) h k = omega arith
 before-asym (Address f) (Fault c) h k = k
 before-asym (Fault c) (Address f) h k = h
 before-asym (Fault c) (Fault d) h k = omega arith
-
-pub keep-rises : (p : Outcome → Bool) (xs : List Outcome) → Rises xs → Rises (keep p xs)
-unfolding keep
-keep-rises p [] h = tt
-keep-rises p (x ∷ xs) h = go (p x) (keep-rises p xs (h .1))
-  where
-    go : (b : Bool) → Rises (keep p xs) → Rises (cond b (x ∷ keep p xs) (keep p xs))
-    go true r = ((λ y m. h .0 y (keep-e p xs y m .0)), r)
-    go false r = r
 
 tails : (x y : Outcome) (xs ys : List Outcome) → x ≡ y → ((z : Outcome) → Mem z xs → Before x z) → (z : Outcome) → Mem z xs → Mem z (y ∷ ys) → Mem z ys
 tails x y xs ys e after z m k = go (List·Memᴰ·cases-cons k)

@@ -3,8 +3,10 @@ use paging::Guest;
 ghost use mathlib.Core.Path.{_≡_};
 ghost use mathlib.Core.Bool.{cond};
 ghost use mathlib.Core.List.{List};
-ghost use Prim.Native.Nat.{ℕ, _≤_};
+ghost use Prim.Native.Nat.{ℕ, _+_, _*_, _<_, _≤_};
+ghost use lib.ListN.{length};
 ghost use Rattle.rules.specs.History.{setup64, eventRefusal};
+ghost use Rattle.rules.specs.Numbers.{eventOf};
 
 // "Four numbers each: processor p, kind, a, b"
 pub struct Event {
@@ -24,6 +26,19 @@ pub struct Question {
 pub enum Outcome {
     Address(Guest),
     Fault(u64),
+}
+
+// Event k of a list, "four numbers each".
+pub fn event_at(events: &[u64], k: usize) -> Event
+    requires { ⌜ 4 * k + 3 < length (now events) ⌝ }
+    ensures { λ r. ⌜ r ≡ eventOf (now (events .entry)) k ⌝ }
+{
+    Event {
+        proc: events[4 * k],
+        kind: events[4 * k + 1],
+        a: events[4 * k + 2],
+        b: events[4 * k + 3],
+    }
 }
 
 fn unless(fits: bool, number: u64, rest: u64) -> u64
@@ -47,7 +62,7 @@ pub fn event_refusal(frames: u64, processors: u64, e: Event) -> u64
         return 4;
     }
     match kind {
-        1 => unless(a < 512 * frames, 8, 0),
+        1 => unless(a < paging::FRAME_WORDS as u64 * frames, 8, 0),
         2 => unless(paging::is_allowed(a), 5, unless(b == 0, 11, 0)),
         3 => unless(a < frames, 7, unless(b == 0, 11, 0)),
         4 => unless(paging::is_allowed(a), 5, unless(b < 6, 6, 0)),

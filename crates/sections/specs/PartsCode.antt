@@ -9,15 +9,16 @@ use Rattle.sections.specs.declared.Section.{Section}
 use Rattle.sections.specs.declared.Section.the-variants.{Map, Cr3s, Words, Events, Questions}
 use Rattle.sections.specs.declared.Part.{Part}
 use Rattle.sections.specs.declared.Part.the-variants.{Read, Refused}
+use Rattle.sections.specs.Sizes.{mostFrames, mostProcessors, pairsSize, eventsSize, questionsSize}
 use Rattle.sections.specs.Sections.{Got, got, refused}
 
 -- how many numbers a section has at most
 abbrev pub capacity : Section → ℕ
-capacity Map = 16
-capacity Cr3s = 4
-capacity Words = 16384
-capacity Events = 1024
-capacity Questions = 48
+capacity Map = mostFrames
+capacity Cr3s = mostProcessors
+capacity Words = pairsSize
+capacity Events = eventsSize
+capacity Questions = questionsSize
 
 -- a buffer holds n numbers in front and is as it was after them
 pub record Kept (old new : List ℕ) (n : ℕ) : Type 0 where

@@ -13,6 +13,9 @@ use Rattle.paging.specs.Frame.{isNew}
 use Rattle.paging.specs.Layout.{tables64, frameWords}
 use Rattle.sections.specs.declared.Section.{Section}
 use Rattle.sections.specs.declared.Section.the-variants.{Map, Cr3s, Words, Events, Questions}
+use Rattle.rules.specs.declared.Event.{Event}
+use Rattle.rules.specs.History.{setup64, eventRefusal}
+use Rattle.sections.specs.Sizes.{mostFrames, mostProcessors, mostEvents, mostQuestions}
 
 -- a part of the text: what it gives and the place after it, or a refusal number and its line
 pub data Got (A : Type 0) : Type 0 where
@@ -51,24 +54,19 @@ wordRange G before v =
     let i = length before in
     cond (eqb (i % 2) 0) (ltb v (frameWords * G) && (eqb i 0 || ltb (getD before (i - 2) 0) v)) true
 
--- "1 store: word a becomes b. 2 INVLPG of address a. 3 CR3 write of frame a. 4 access to a with request b. 5 begin a
--- walk of a in slot b. 6 extend slot a. 7 drop slot a." "b is 0 unless named."
-unfoldable pub aRange : ℕ → ℕ → ℕ → Bool
-aRange G kind a =
-    cond (eqb kind 1) (ltb a (frameWords * G))
-    (cond (eqb kind 3) (ltb a G)
-    (cond (eqb kind 6 || eqb kind 7) (leb a 7) (tables64 .allowed a)))
-
-unfoldable pub bRange : ℕ → ℕ → Bool
-bRange kind b = cond (eqb kind 1) true (cond (eqb kind 4) (leb b 5) (cond (eqb kind 5) (leb b 7) (eqb b 0)))
-
--- "Four numbers each: processor p, kind, a, b"
-unfoldable pub eventRange : ℕ → ℕ → List ℕ → ℕ → Bool
-eventRange G P before v =
+-- "Four numbers each: processor p, kind, a, b": the event that v is a number of, with those before v; for those that come
+-- after it stands what always fits, a store of 0 to word 0
+abbrev pub eventSoFar : List ℕ → ℕ → Event
+eventSoFar before v =
     let i = length before in
-    cond (eqb (i % 4) 0) (ltb v P)
-    (cond (eqb (i % 4) 1) (isBetween 1 7 v)
-    (cond (eqb (i % 4) 2) (aRange G (getD before (i - 1) 0) v) (bRange (getD before (i - 2) 0) v)))
+    cond (eqb (i % 4) 0) (record { proc = v; kind = 1; a = 0; b = 0 })
+    (cond (eqb (i % 4) 1) (record { proc = getD before (i - 1) 0; kind = v; a = 0; b = 0 })
+    (cond (eqb (i % 4) 2) (record { proc = getD before (i - 2) 0; kind = getD before (i - 1) 0; a = v; b = 0 })
+    (record { proc = getD before (i - 3) 0; kind = getD before (i - 2) 0; a = getD before (i - 1) 0; b = v })))
+
+-- a number of an event is in range if the rules refuse nothing of the event so far
+unfoldable pub eventRange : ℕ → ℕ → List ℕ → ℕ → Bool
+eventRange G P before v = eqb (eventRefusal (setup64 G P [] []) (eventSoFar before v)) 0
 
 -- "questions (processor, address, request; 1 to 16)"; number i of the section
 unfoldable pub questionRange : ℕ → ℕ → ℕ → Bool
@@ -85,13 +83,13 @@ width Words = 2
 width Events = 4
 width Questions = 3
 
--- "The programs take G to 16, … 256 events, 16 questions"; "P 1..4"; "for words, above 512×G"
+-- what the programs take; "for words, above 512×G"
 abbrev pub countRange : Section → ℕ → ℕ → Bool
-countRange Map G n = isBetween 1 16 n
-countRange Cr3s G n = isBetween 1 4 n
+countRange Map G n = isBetween 1 mostFrames n
+countRange Cr3s G n = isBetween 1 mostProcessors n
 countRange Words G n = leb n (frameWords * G)
-countRange Events G n = leb n 256
-countRange Questions G n = isBetween 1 16 n
+countRange Events G n = leb n mostEvents
+countRange Questions G n = isBetween 1 mostQuestions n
 
 abbrev pub inRange : Section → ℕ → ℕ → List ℕ → ℕ → Bool
 inRange Map G P before v = mapRange before v

@@ -7,7 +7,7 @@ use native.Mathlib.Omega.{arith}
 use lib.Dec.{T, ltb, leb, ltb→lt, leb→le}
 use borrow.Author.Tests.{lt-ltb, le-ltb}
 use Rattle.paging.specs.declared.Request.{Request}
-use Rattle.paging.specs.Frame.{guest, host, hostOf}
+use Rattle.paging.specs.Frame.{guest, host, hostOf, hostAddress}
 use Rattle.paging.specs.Layout.{tables64, index, pageOf, frameOf, rightsOf, isPresent}
 use Rattle.paging.specs.Request.{requestOf, enough}
 use Rattle.paging.specs.Walk.{meet}
@@ -15,11 +15,12 @@ use Rattle.paging.proofs.Finite.{at-below}
 use Rattle.paging.proofs.Tests.{and-l, and-r}
 use Rattle.paging.proofs.Rights.{meet-small}
 use Rattle.tables.specs.declared.Path.{Path}
-use Rattle.tables.specs.State.{Machine, State, placeIn, tableCount, rootOf, entryOf, top, down, nextEntry, descend, pathTo}
-use Rattle.tables.specs.Steps.{servingSlot}
+use Rattle.tables.specs.State.{Machine, State, tableCount, rootOf, entryOf, top, down, nextEntry, descend, pathTo}
+use Rattle.slots.specs.Slots.{placeIn, servingSlot}
 use Rattle.tables.proofs.Names.{named-small}
 use Rattle.shadow.specs.declared.Answer.the-variants.{Address}
-use Rattle.shadow.specs.After.{Result, gives, valueAt, afterMiss, afterAccess}
+use Rattle.shadow.specs.Answer.{Result, gives}
+use Rattle.shadow.specs.Access.{afterMiss, afterAccess}
 
 small : ℕ → Bool
 small n = ltb (requestOf tables64 n .needs) 8 && leb (requestOf tables64 n .adds) 20
@@ -61,9 +62,9 @@ module _ (M : Machine) (map : List ℕ) (p a r : ℕ) (s : State) where
   abbrev by-all : ℕ → Request → ℕ → Path → ℕ → Result
   by-all page q k w e =
       cond (ltb k 8)
-      (gives (Address (valueAt (hostOf map (guest (placeIn (s .slots) p k))) a)) s)
+      (gives (Address (hostAddress (hostOf map (guest (placeIn (s .slots) p k))) a)) s)
       (cond (isPresent e && enough q (meet (w .rights) (rightsOf (M .tables) e)))
-      (gives (Address (valueAt (host (frameOf (M .tables) e)) a)) s)
+      (gives (Address (hostAddress (host (frameOf (M .tables) e)) a)) s)
       (afterMiss M map p page q s))
 
   module _ {page : ℕ} {q : Request} {k : ℕ} (ep : page ≡ pageOf (M .tables) a) (eq : q ≡ requestOf (M .tables) r) (ek : k ≡ servingSlot (s .slots) p page q) where
@@ -75,7 +76,7 @@ module _ (M : Machine) (map : List ℕ) (p a r : ℕ) (s : State) where
         let e′ = ee ∙ ap₂ (nextEntry M (s .shadow .pool)) ep w′ in
         (λ j. by-all (ep j) (eq j) (k′ j) (w′ j) (e′ j))
 
-    pub access-slot : k < 8 → {v : ℕ} → v ≡ valueAt (hostOf map (guest (placeIn (s .slots) p k))) a → gives (Address v) s ≡ afterAccess M map p a r s
+    pub access-slot : k < 8 → {v : ℕ} → v ≡ hostAddress (hostOf map (guest (placeIn (s .slots) p k))) a → gives (Address v) s ≡ afterAccess M map p a r s
     access-slot h ev =
         ap (λ (v : ℕ). gives (Address v) s) ev
         ∙ (simp (lt-ltb k 8 h) at (spelt (pathTo M (s .shadow .pool) p page 1) (nextEntry M (s .shadow .pool) page (pathTo M (s .shadow .pool) p page 1)) refl refl))
@@ -84,7 +85,7 @@ module _ (M : Machine) (map : List ℕ) (p a r : ℕ) (s : State) where
       entry-is : e ≡ nextEntry M (s .shadow .pool) page w
       entry-is = ee ∙ ap (entryOf M (s .shadow .pool) (w .table)) ei
 
-      pub access-path : isPresent e && enough q (meet (w .rights) (rightsOf (M .tables) e)) ≡ true → {v : ℕ} → v ≡ valueAt (host (frameOf (M .tables) e)) a
+      pub access-path : isPresent e && enough q (meet (w .rights) (rightsOf (M .tables) e)) ≡ true → {v : ℕ} → v ≡ hostAddress (host (frameOf (M .tables) e)) a
           → gives (Address v) s ≡ afterAccess M map p a r s
       access-path serves ev =
           ap (λ (v : ℕ). gives (Address v) s) ev ∙ (simp (le-ltb k 8 none, serves) at (spelt w e ew entry-is))

@@ -14,12 +14,14 @@ use Rattle.paging.specs.declared.Origin.the-variants.{Of, Nowhere}
 use Rattle.paging.specs.Frame.{guest, host, originFrom, originOf}
 use Rattle.paging.specs.Layout.{index, frameOf, rightsOf, isPresent}
 use Rattle.paging.specs.Walk.{meet}
-use Rattle.tables.specs.State.{Machine, State, stateOf, slotAt, markOf, pageIn, withSlot, entryOf, named, tableCount}
+use Rattle.tables.specs.State.{Machine, State, stateOf, entryOf, named, tableCount}
+use Rattle.slots.specs.Slots.{slotAt, markOf, pageIn, withSlot}
 use Rattle.tables.proofs.Names.{named-small}
 use Rattle.shadow.specs.declared.Answer.the-variants.{Done, NoStep}
 use Rattle.shadow.specs.declared.Place.{Place}
 use Rattle.shadow.specs.declared.Place.the-variants.{At, Off}
-use Rattle.shadow.specs.After.{Result, gives, byPlace, placeOf, placeBelow, afterExtend}
+use Rattle.shadow.specs.Answer.{Result, gives}
+use Rattle.shadow.specs.Moves.{byPlace, placeOf, placeBelow, afterExtend}
 
 -- ---- places are small
 

@@ -7,7 +7,9 @@ use native.Mathlib.Omega.{arith}
 use lib.Dec.{eqb}
 use Rattle.rules.specs.declared.Event.{Event}
 use Rattle.tables.specs.State.{Machine, State}
-use Rattle.shadow.specs.After.{Move, store, invlpg, writeCr3, access, begin, extend, drop, decode, moved, afterStore, afterInvlpg, afterCr3, afterAccess, afterBegin, afterExtend, afterDrop}
+use Rattle.shadow.specs.Moves.{Move, decode, afterStore, afterInvlpg, afterCr3, afterBegin, afterExtend, afterDrop, store, invlpg, writeCr3, access, begin, extend, drop}
+use Rattle.shadow.specs.After.{moved}
+use Rattle.shadow.specs.Access.{afterAccess}
 
 abbrev byKind : ℕ → ℕ → ℕ → Move
 byKind k a b =

@@ -15,7 +15,9 @@ use Rattle.rules.proofs.Ranges.{clear}
 use Rattle.tables.specs.declared.Sizes.{Sizes}
 use Rattle.tables.specs.State.{Machine, shadowOf, State, stateOf, machine64, tableCount, Sized}
 use Rattle.shadow.specs.declared.Answer.the-variants.{Done, Refused}
-use Rattle.shadow.specs.After.{gives, rangesFit, lengthsFit, poolFits, inPool, framesFit, rooted, setupRefusal, afterSetup}
+use Rattle.shadow.specs.Answer.{gives}
+use Rattle.shadow.specs.Refusals.{rangesFit, lengthsFit, poolFits, inPool, framesFit, setupRefusal}
+use Rattle.shadow.specs.Setup.{rooted, afterSetup}
 use Rattle.shadow.proofs.Sizing.{Ranged, ranged, pool-room, Exact, exact}
 use Rattle.shadow.proofs.Accepted.{first-two, neither}
 

@@ -16,8 +16,13 @@ use Rattle.rules.proofs.Ranges.{below-twelve}
 use Rattle.tables.specs.State.{Machine, State}
 use Rattle.lawful.specs.Rules.{lawful}
 use Rattle.shadow.specs.declared.Answer.{Answer}
-use Rattle.shadow.specs.After.{Result, gives, after, afterSetup, afterStore, asSetup, rangesFit, lengthsFit, framesFit, tooFew, callRefusal, setupRefusal}
+use Rattle.shadow.specs.After.{after}
+use Rattle.shadow.specs.Refusals.{setupRefusal}
 use Rattle.shadow.proofs.Sizing.{Ranged, ranged}
+use Rattle.shadow.specs.Answer.{Result, gives}
+use Rattle.shadow.specs.Setup.{afterSetup}
+use Rattle.shadow.specs.Moves.{afterStore}
+use Rattle.shadow.specs.Refusals.{asSetup, rangesFit, lengthsFit, framesFit, tooFew, callRefusal}
 
 -- ---- ANY TWO RESULTS THAT A PROMISE ALLOWS ARE EQUAL
 

@@ -15,12 +15,15 @@ use Rattle.paging.specs.Request.{enough}
 use Rattle.paging.specs.Walk.{start, step}
 use Rattle.paging.proofs.Rights.{meet-small}
 use Rattle.paging.proofs.Steps.{goes}
-use Rattle.tables.specs.declared.Walked.{Walked}
-use Rattle.tables.specs.declared.Walked.the-variants.{Whole, Fault}
 use Rattle.tables.specs.State.{Machine, State, stateOf, shadows, rootOf}
-use Rattle.tables.specs.Steps.{GuestWalk, guestWalk, byStep, walkFrom, walkGuest}
 use Rattle.shadow.specs.declared.Answer.the-variants.{Fault as Faulted, Again}
-use Rattle.shadow.specs.After.{Result, gives, dirtied, fill, faulted, afterWalk, afterMiss}
+use Rattle.shadow.specs.Access.{faulted}
+use Rattle.guest.specs.declared.Walked.{Walked}
+use Rattle.guest.specs.declared.Walked.the-variants.{Whole, Fault}
+use Rattle.guest.specs.GuestWalk.{GuestWalk, guestWalk, byStep, walkFrom, walkGuest, dirtied}
+use Rattle.shadow.specs.Answer.{Result, gives}
+use Rattle.shadow.specs.Fill.{fill}
+use Rattle.shadow.specs.Access.{afterWalk, afterMiss}
 
 abbrev pub InRange : ℕ → Walked → Type 0
 InRange limit (Whole last w) = (last .0 < limit) × (w .rights < 8)

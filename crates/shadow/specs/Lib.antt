@@ -1,3 +1,9 @@
+pub mod Answer
+pub mod Moves
+pub mod Fill
+pub mod Access
+pub mod Refusals
 pub mod After
-pub mod ReadyCode
+pub mod Setup
 pub mod Runs
+pub mod ReadyCode

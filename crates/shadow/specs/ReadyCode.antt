@@ -5,7 +5,8 @@ use Prim.Native.Nat.{ℕ, _+_, _*_, _^_, _≤_, _<_}
 use lib.ListN.{length, getD}
 use Rattle.rules.specs.declared.Event.{Event}
 use Rattle.tables.specs.declared.Sizes.{Sizes}
-use Rattle.tables.specs.State.{machine64, recordSize, tableCount, rootOf, shadows, markOf, placeIn, Sized}
+use Rattle.tables.specs.State.{machine64, recordSize, tableCount, rootOf, shadows, Sized}
+use Rattle.slots.specs.Slots.{slotCount, slotsSize, markOf, placeIn}
 
 pub record Ready (z : Sizes) (map records slots : List ℕ) (p : ℕ) : Type 0 where
   pub sized : Sized z
@@ -14,7 +15,7 @@ pub record Ready (z : Sizes) (map records slots : List ℕ) (p : ℕ) : Type 0 w
   pub guests : length map ≤ 256
   pub hosts : (i : ℕ) → getD map i 0 < 2 ^ 40
   pub pairs : length records ≡ recordSize * tableCount (machine64 z)
-  pub triples : 24 * p + 24 ≤ length slots
+  pub triples : slotsSize * p + slotsSize ≤ length slots
   pub cr3 : shadows records (rootOf (machine64 z) p) .0 < 2 ^ 40
 
 -- a partial slot has a level, and stands on a table
@@ -27,7 +28,7 @@ pub record Fitting (words slots : List ℕ) (e : Event) : Type 0 where
   pub kind : (1 ≤ e .kind) × (e .kind ≤ 7)
   pub stores : e .kind ≡ 1 → e .a < length words
   pub requests : e .kind ≡ 4 → e .b < 6
-  pub begins : e .kind ≡ 5 → e .b < 8
-  pub extends : e .kind ≡ 6 → e .a < 8
-  pub drops : e .kind ≡ 7 → e .a < 8
-  pub stands : (k : ℕ) → k < 8 → Standing slots (e .proc) k
+  pub begins : e .kind ≡ 5 → e .b < slotCount
+  pub extends : e .kind ≡ 6 → e .a < slotCount
+  pub drops : e .kind ≡ 7 → e .a < slotCount
+  pub stands : (k : ℕ) → k < slotCount → Standing slots (e .proc) k

@@ -6,8 +6,7 @@ use Prim.Native.Nat.{ℕ}
 use lib.Dec.{eqb, ltb}
 use borrow.Author.Tests.{eq-eqb, ne-eqb, lt-ltb}
 use Rattle.paging.proofs.Tests.{above-one}
-use Rattle.tables.specs.State.{markOf, pageIn, emptied}
-use Rattle.tables.specs.Steps.{flushed}
+use Rattle.slots.specs.Slots.{markOf, pageIn, emptied, flushed}
 
 module _ (slots : List ℕ) (p page k : ℕ) where
   by-mark : (m : ℕ) → markOf slots p k ≡ m

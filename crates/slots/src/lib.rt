@@ -2,20 +2,26 @@
 ghost use mathlib.Core.Path.{_≡_};
 ghost use Prim.Native.Nat.{_+_, _*_, _^_, _<_, _≤_};
 ghost use lib.ListN.{length};
-ghost use Rattle.tables.specs.State.{slotAt, withSlot};
-ghost use Rattle.tables.specs.Steps.{slotServes, servingSlot, flushed, flush, emptySlots};
+ghost use Rattle.slots.specs.Slots.{slotCount, slotsSize, slotAt, withSlot, slotServes, servingSlot, flushed, flush, emptySlots};
 use paging::Request;
+
+// "8 hardware TLB slots", of three numbers each: 24 numbers to a processor.
+pub const SLOTS: u64 = 8;
+
+const SLOT_SIZE: u64 = 3;
+
+pub const SLOTS_SIZE: u64 = SLOTS * SLOT_SIZE;
 
 // Where slot k of p stands: its mark, its page, and its place and rights.
 pub fn slot_at(p: u64, k: u64) -> usize
-    requires { ⌜ (p < 4) × (k < 8) ⌝ }
+    requires { ⌜ (p < 4) × (k < slotCount) ⌝ }
     ensures { λ r. ⌜ r ≡ slotAt p k ⌝ }
 {
-    (24 * p + 3 * k) as usize
+    (SLOTS_SIZE * p + SLOT_SIZE * k) as usize
 }
 
 pub fn set_slot(slots: &mut [u64], p: u64, k: u64, mark: u64, page: u64, place: u64, rights: u64)
-    requires { ⌜ (p < 4) × (k < 8) × (24 * p + 24 ≤ length (now slots)) × (place < 2 ^ 40) × (rights < 8) ⌝ }
+    requires { ⌜ (p < 4) × (k < slotCount) × (slotsSize * p + slotsSize ≤ length (now slots)) × (place < 2 ^ 40) × (rights < 8) ⌝ }
     ensures { λ _. ⌜ now (slots .exit) ≡ withSlot p k mark page place rights (now (slots .entry)) ⌝ }
 {
     let at = slot_at(p, k);
@@ -25,7 +31,7 @@ pub fn set_slot(slots: &mut [u64], p: u64, k: u64, mark: u64, page: u64, place: 
 }
 
 fn slot_serves(slots: &[u64], p: u64, page: u64, q: Request, k: u64) -> bool
-    requires { ⌜ (p < 4) × (k < 8) × (24 * p + 24 ≤ length (now slots)) × (q .needs < 8) ⌝ }
+    requires { ⌜ (p < 4) × (k < slotCount) × (slotsSize * p + slotsSize ≤ length (now slots)) × (q .needs < 8) ⌝ }
     ensures { λ r. ⌜ r ≡ slotServes (now (slots .entry)) p page q k ⌝ }
 {
     let at = slot_at(p, k);
@@ -40,13 +46,13 @@ fn slot_serves(slots: &[u64], p: u64, page: u64, q: Request, k: u64) -> bool
 
 // The lowest slot with a complete walk of the page and enough rights; 8 if there is none.
 pub fn serving_slot(slots: &[u64], p: u64, page: u64, q: Request) -> u64
-    requires { ⌜ (p < 4) × (24 * p + 24 ≤ length (now slots)) × (q .needs < 8) ⌝ }
+    requires { ⌜ (p < 4) × (slotsSize * p + slotsSize ≤ length (now slots)) × (q .needs < 8) ⌝ }
     ensures { λ r. ⌜ r ≡ servingSlot (now (slots .entry)) p page q ⌝ }
 {
     let mut k: u64 = 0;
     let found = loop {
-        if k >= 8 {
-            break 8;
+        if k >= SLOTS {
+            break SLOTS;
         }
         if slot_serves(slots, p, page, q, k) {
             break k;
@@ -57,7 +63,7 @@ pub fn serving_slot(slots: &[u64], p: u64, page: u64, q: Request) -> u64
 }
 
 fn flush_slot(slots: &mut [u64], p: u64, page: u64, k: u64)
-    requires { ⌜ (p < 4) × (k < 8) × (24 * p + 24 ≤ length (now slots)) ⌝ }
+    requires { ⌜ (p < 4) × (k < slotCount) × (slotsSize * p + slotsSize ≤ length (now slots)) ⌝ }
     ensures { λ _. ⌜ now (slots .exit) ≡ flushed p page k (now (slots .entry)) ⌝ }
 {
     let at = slot_at(p, k);
@@ -75,22 +81,22 @@ fn flush_slot(slots: &mut [u64], p: u64, page: u64, k: u64)
 
 // Empties p's partial slots and its complete slots of the page.
 pub fn flush(slots: &mut [u64], p: u64, page: u64)
-    requires { ⌜ (p < 4) × (24 * p + 24 ≤ length (now slots)) ⌝ }
+    requires { ⌜ (p < 4) × (slotsSize * p + slotsSize ≤ length (now slots)) ⌝ }
     ensures { λ _. ⌜ now (slots .exit) ≡ flush p page (now (slots .entry)) ⌝ }
 {
     let mut k = 0;
-    while k < 8 {
+    while k < SLOTS {
         flush_slot(slots, p, page, k);
         k += 1;
     }
 }
 
 pub fn empty_slots(slots: &mut [u64], p: u64)
-    requires { ⌜ (p < 4) × (24 * p + 24 ≤ length (now slots)) ⌝ }
+    requires { ⌜ (p < 4) × (slotsSize * p + slotsSize ≤ length (now slots)) ⌝ }
     ensures { λ _. ⌜ now (slots .exit) ≡ emptySlots p (now (slots .entry)) ⌝ }
 {
     let mut k = 0;
-    while k < 8 {
+    while k < SLOTS {
         set_slot(slots, p, k, 0, 0, 0, 0);
         k += 1;
     }

@@ -11,7 +11,8 @@ use Rattle.paging.specs.Frame.{guest}
 use Rattle.paging.specs.Layout.{index, frameOf, rightsOf}
 use Rattle.tables.specs.declared.Spot.{Spot}
 use Rattle.tables.specs.State.{Machine, Shadow, onPool, withEntry, entryOf, named, tableCount}
-use Rattle.tables.specs.Steps.{Settled, settledAt, spot, cut, taken, hang, guestEntry, leafOf, agrees, settle, hangNext, build}
+use Rattle.tables.specs.Steps.{Settled, settledAt, spot, cut, taken, hang, leafOf, agrees, settle, hangNext, build}
+use Rattle.guest.specs.GuestWalk.{guestEntry}
 
 first-of-three : (a b c : Bool) → a && b && c ≡ true → a ≡ true
 first-of-three true b c e = refl

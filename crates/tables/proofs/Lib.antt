@@ -1,8 +1,6 @@
 pub mod Names
 pub mod Owners
 pub mod Paths
-pub mod Counts
 pub mod Frees
 pub mod Fills
 pub mod Takes
-pub mod Walks

@@ -2,7 +2,7 @@
 use mathlib.Core.Path.{_≡_}
 use mathlib.Core.Bool.{Bool, true, cond, _&&_}
 use mathlib.Core.List.{List}
-use Prim.Native.Nat.{ℕ, zero, suc, _+_, _-_, _*_, _/_, _%_, _^_, _≤_, _<_}
+use Prim.Native.Nat.{ℕ, zero, suc, _+_, _-_, _*_, _/_, _^_, _≤_, _<_}
 use lib.Dec.{eqb, ltb, leb}
 use lib.ListN.{length, getD, set}
 use Rattle.paging.specs.declared.Guest.{Guest}
@@ -78,34 +78,6 @@ withRecord t level g records = set (set records (recordSize * t) level) (recordS
 
 abbrev pub isFree : List ℕ → ℕ → Bool
 isFree records t = eqb (levelOf records t) 0
-
--- "8 hardware TLB slots"
-abbrev pub slotCount : ℕ
-slotCount = 8
-
--- "A slot is mark (0 empty, 1 complete, level+1 partial), page, and place×8 + rights"; here of slot k of p
-abbrev pub slotAt : ℕ → ℕ → ℕ
-slotAt p k = 24 * p + 3 * k
-
-abbrev pub markOf : List ℕ → ℕ → ℕ → ℕ
-markOf slots p k = getD slots (slotAt p k) 0
-
-abbrev pub pageIn : List ℕ → ℕ → ℕ → ℕ
-pageIn slots p k = getD slots (slotAt p k + 1) 0
-
-abbrev pub placeIn : List ℕ → ℕ → ℕ → ℕ
-placeIn slots p k = getD slots (slotAt p k + 2) 0 / 8
-
-abbrev pub rightsIn : List ℕ → ℕ → ℕ → ℕ
-rightsIn slots p k = getD slots (slotAt p k + 2) 0 % 8
-
-abbrev pub withSlot : ℕ → ℕ → ℕ → ℕ → ℕ → ℕ → List ℕ → List ℕ
-withSlot p k mark page place rights slots =
-    set (set (set slots (slotAt p k) mark) (slotAt p k + 1) page) (slotAt p k + 2) (place * 8 + rights)
-
--- "empty is 0, 0, 0"
-abbrev pub emptied : ℕ → ℕ → List ℕ → List ℕ
-emptied p k slots = withSlot p k 0 0 0 0 slots
 
 module _ (M : Machine) where
   -- "Processor p owns tables p×S to p×S+S−1. The first is its root."

@@ -1,60 +1,16 @@
 -- The few steps that all events are made of. Each is total: where an index or a table is none, it changes nothing.
-use mathlib.Core.Bool.{Bool, cond, _&&_, _||_}
+use mathlib.Core.Bool.{Bool, cond, _&&_}
 use mathlib.Core.List.{List}
 use Prim.Native.Nat.{ℕ, zero, suc, _+_, _^_}
 use lib.Dec.{eqb, ltb}
 use Rattle.paging.specs.declared.Guest.{Guest}
-use Rattle.paging.specs.declared.Walk.{Walk}
-use Rattle.paging.specs.declared.Step.{Step}
-use Rattle.paging.specs.declared.Step.the-variants.{On, Absent, Beyond, Complete}
 use Rattle.paging.specs.Frame.{guest, hostOf}
-use Rattle.paging.specs.Layout.{Layout, bit, get, put, index, frameOf, rightsOf, compose, withA}
-use Rattle.paging.specs.declared.Request.{Request}
-use Rattle.paging.specs.Request.{enough}
-use Rattle.paging.specs.Walk.{meet, start, step}
+use Rattle.paging.specs.Layout.{Layout, bit, put, index, frameOf, rightsOf, compose}
+use Rattle.paging.specs.Walk.{meet}
 use Rattle.tables.specs.declared.Spot.{Spot}
-use Rattle.tables.specs.declared.Walked.{Walked}
-use Rattle.tables.specs.declared.Walked.the-variants.{Whole, Fault}
 use Rattle.paging.specs.Numbers.{each, first, count}
-use Rattle.tables.specs.State.{Machine, Shadow, shadowOf, onPool, onRecords, shadows, withRecord, isFree, slotCount, markOf, pageIn, rightsIn, emptied, tableCount, homeOf, rootOf, owns, entryCount, entryOf, withEntry, named}
-
--- "a complete walk of the page and enough rights"
-abbrev pub slotServes : List ℕ → ℕ → ℕ → Request → ℕ → Bool
-slotServes slots p page q k =
-    eqb (markOf slots p k) 1 && eqb (pageIn slots p k) page && enough q (rightsIn slots p k)
-
--- "the lowest slot with a complete walk of the page and enough rights"; 8 is none
-unfoldable pub servingSlot : List ℕ → ℕ → ℕ → Request → ℕ
-servingSlot slots p page q = first slotCount (slotServes slots p page q)
-
--- "the flush of v: p's partial slots and its complete slots of page v are emptied"
-abbrev pub goesWith : List ℕ → ℕ → ℕ → ℕ → Bool
-goesWith slots p page k = ltb 1 (markOf slots p k) || eqb (markOf slots p k) 1 && eqb (pageIn slots p k) page
-
-unfoldable pub flushed : ℕ → ℕ → ℕ → List ℕ → List ℕ
-flushed p page k slots = cond (goesWith slots p page k) (emptied p k slots) slots
-
-unfoldable pub flush : ℕ → ℕ → List ℕ → List ℕ
-flush p page slots = each slotCount (flushed p page) slots
-
--- "p's slots are emptied"
-unfoldable pub emptySlots : ℕ → List ℕ → List ℕ
-emptySlots p slots = each slotCount (emptied p) slots
-
--- the guest's words after a walk of its tables, and how the walk ended
-pub record GuestWalk : Type 0 where
-  pub words : List ℕ
-  pub ended : Walked
-
-abbrev pub guestWalk : List ℕ → Walked → GuestWalk
-guestWalk w r = record { words = w; ended = r }
-
--- how a walk ends, or goes on, by what it does at its entry
-abbrev pub byStep : List ℕ → Guest → Walk → (Walk → GuestWalk) → Step → GuestWalk
-byStep words last w on (On w′) = on w′
-byStep words last w on Absent = guestWalk words (Fault 0)
-byStep words last w on Beyond = guestWalk words (Fault 9)
-byStep words last w on Complete = guestWalk words (Whole last w)
+use Rattle.tables.specs.State.{Machine, Shadow, shadowOf, onPool, onRecords, shadows, withRecord, isFree, tableCount, homeOf, rootOf, owns, entryCount, entryOf, withEntry, named}
+use Rattle.guest.specs.GuestWalk.{guestEntry}
 
 -- what settling leaves: where it stands, and the tables
 pub record Settled : Type 0 where
@@ -66,24 +22,6 @@ spot m t g = record { missing = m; table = t; frame = g }
 
 abbrev pub settledAt : Spot → Shadow → Settled
 settledAt w s = record { spot = w; shadow = s }
-
--- ---- walking the guest's tables
-
-module _ (Y : Layout) (G : ℕ) (page : ℕ) where
-  -- "Each entry extended from gets A." Here with n entries left to read.
-  unfoldable pub walkFrom : ℕ → List ℕ → Guest → Walk → GuestWalk
-  walkFrom zero words last w = guestWalk words (Whole last w)
-  walkFrom (suc n) words last w =
-      let i = index Y page (w .level) in
-      let e = get Y words (w .frame .0) i in
-      byStep words last w (λ w′. walkFrom n (put Y words (w .frame .0) i (withA e)) (w .frame) w′) (step Y G w e)
-
-  abbrev pub walkGuest : List ℕ → Guest → GuestWalk
-  walkGuest words cr3 = walkFrom (Y .levels) words cr3 (start Y cr3)
-
--- the guest's entry for a table of level l that shadows frame g
-abbrev pub guestEntry : Layout → List ℕ → ℕ → ℕ → Guest → ℕ
-guestEntry Y words page l g = get Y words (g .0) (index Y page l)
 
 -- "The level 1 entry is written with the guest's rights, W only if D is now set." "D equals RW"
 unfoldable pub leafOf : Layout → List ℕ → ℕ → ℕ

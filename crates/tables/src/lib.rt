@@ -2,15 +2,10 @@
 ghost use mathlib.Core.Path.{_≡_};
 ghost use Prim.Native.Nat.{ℕ, _+_, _-_, _*_, _^_, _<_, _≤_};
 ghost use lib.ListN.{length, getD};
-ghost use Rattle.paging.specs.Frame.{hostOf};
-ghost use Rattle.paging.specs.Layout.{tables64, get, put};
-ghost use Rattle.paging.specs.Walk.{meet};
+ghost use Rattle.paging.specs.Layout.{tables64, frameWords};
 ghost use Rattle.tables.specs.State.{Sized, Room, SpotFits, machine64, shadowOf, recordSize, levelOf, shadows, withRecord, tableCount, homeOf, ownerOf, rootOf, named, down, pathTo};
-ghost use Rattle.tables.specs.Steps.{freeTable, cut, zeroed, emptyOwn, emptyShare, mayTake, freeCount, taken, hang, hangNext, leafOf, walkGuest, guestWalk, guestEntry, agrees, settle, settledAt, build};
+ghost use Rattle.tables.specs.Steps.{freeTable, cut, zeroed, emptyOwn, emptyShare, mayTake, freeCount, taken, hang, hangNext, leafOf, agrees, settle, settledAt, build};
 use paging::Guest;
-use paging::Host;
-use paging::Step;
-use paging::Walk;
 
 // "G frames", "P processors", "a share of S shadow tables", and the pool base.
 pub struct Sizes {
@@ -34,35 +29,10 @@ pub struct Spot {
     pub frame: Guest,
 }
 
-// How a walk of the guest's tables ended: whole, with the last table it read; or with a fault's base code.
-pub enum Walked {
-    Whole(Guest, Walk),
-    Fault(u64),
-}
-
 // A record is level and guest frame shadowed.
 pub const RECORD: usize = 2;
 
-// ---- entries, records, owners
-
-// Entry i of frame or table f; past the end it is absent.
-pub fn entry_at(words: &[u64], f: u64, i: usize) -> u64
-    requires { ⌜ (f < 2 ^ 40) × (i < 512) ⌝ }
-    ensures { λ r. ⌜ r ≡ get tables64 (now (words .entry)) f i ⌝ }
-{
-    let at = 512 * (f as usize) + i;
-    if at < words.len() { words[at] } else { 0 }
-}
-
-pub fn write_entry(words: &mut [u64], f: u64, i: usize, e: u64)
-    requires { ⌜ (f < 2 ^ 40) × (i < 512) ⌝ }
-    ensures { λ _. ⌜ now (words .exit) ≡ put tables64 (now (words .entry)) f i e ⌝ }
-{
-    let at = 512 * (f as usize) + i;
-    if at < words.len() {
-        words[at] = e;
-    }
-}
+// ---- records and owners
 
 pub fn level_of(records: &[u64], t: u64) -> u64
     requires { ⌜ t ≤ 64 ⌝ }
@@ -139,23 +109,16 @@ pub fn named_by(z: Sizes, e: u64) -> u64
     if f - z.base < n { f - z.base } else { n }
 }
 
-pub fn shared_rights(a: u64, b: u64) -> u64
-    requires { ⌜ (a < 8) × (b < 8) ⌝ }
-    ensures { λ r. ⌜ r ≡ meet a b ⌝ }
-{
-    a & b
-}
-
 // ---- paths
 
-pub fn step_down(z: Sizes, w: Path, e: u64) -> Path
+fn step_down(z: Sizes, w: Path, e: u64) -> Path
     requires { ⌜ Sized z × (1 ≤ w .level) × (w .rights < 8) ⌝ }
     ensures { λ r. ⌜ r ≡ down (machine64 z) w e ⌝ }
 {
     Path {
         level: w.level - 1,
         table: named_by(z, e),
-        rights: shared_rights(w.rights, paging::rights_of(e)),
+        rights: paging::shared_rights(w.rights, paging::rights_of(e)),
     }
 }
 
@@ -171,7 +134,7 @@ pub fn path_to(pool: &[u64], z: Sizes, p: u64, page: u64, level: u64) -> Path
     };
     while w.level > level {
         let i = paging::index_of(page, w.level);
-        let e = entry_at(pool, w.table, i);
+        let e = paging::entry_at(pool, w.table, i);
         w = step_down(z, w, e);
     }
     w
@@ -180,7 +143,7 @@ pub fn path_to(pool: &[u64], z: Sizes, p: u64, page: u64, level: u64) -> Path
 // ---- freeing
 
 // Frees table t of the given level, and every table below it.
-pub fn free_table(pool: &mut [u64], records: &mut [u64], z: Sizes, t: u64, level: u64)
+fn free_table(pool: &mut [u64], records: &mut [u64], z: Sizes, t: u64, level: u64)
     requires { ⌜ Room z (now records) ⌝ }
     requires { ⌜ t < tableCount (machine64 z) ⌝ }
     ensures { λ _. ⌜ shadowOf (now (pool .exit)) (now (records .exit)) ≡ freeTable (machine64 z) level t (shadowOf (now (pool .entry)) (now (records .entry))) ⌝ }
@@ -189,28 +152,28 @@ pub fn free_table(pool: &mut [u64], records: &mut [u64], z: Sizes, t: u64, level
         return;
     }
     let n = table_count(z);
-    for i in 0..512usize {
-        let u = named_by(z, entry_at(pool, t, i));
+    for i in 0..paging::FRAME_WORDS {
+        let u = named_by(z, paging::entry_at(pool, t, i));
         if u < n {
             free_table(pool, records, z, u, level - 1);
         }
-        write_entry(pool, t, i, 0);
+        paging::write_entry(pool, t, i, 0);
     }
     set_record(records, t, 0, Guest(0));
 }
 
 // Frees the table of the given level that entry i of t names, and clears the entry.
-pub fn cut_entry(pool: &mut [u64], records: &mut [u64], z: Sizes, level: u64, t: u64, i: usize)
+fn cut_entry(pool: &mut [u64], records: &mut [u64], z: Sizes, level: u64, t: u64, i: usize)
     requires { ⌜ Room z (now records) ⌝ }
-    requires { ⌜ (t < tableCount (machine64 z)) × (i < 512) ⌝ }
+    requires { ⌜ (t < tableCount (machine64 z)) × (i < frameWords) ⌝ }
     ensures { λ _. ⌜ shadowOf (now (pool .exit)) (now (records .exit)) ≡ cut (machine64 z) level t i (shadowOf (now (pool .entry)) (now (records .entry))) ⌝ }
 {
-    let u = named_by(z, entry_at(pool, t, i));
+    let u = named_by(z, paging::entry_at(pool, t, i));
     if u < table_count(z) {
         free_table(pool, records, z, u, level);
-        write_entry(pool, t, i, 0);
+        paging::write_entry(pool, t, i, 0);
     } else {
-        write_entry(pool, t, i, 0);
+        paging::write_entry(pool, t, i, 0);
     }
 }
 
@@ -218,8 +181,8 @@ fn zero_table(pool: &mut [u64], t: u64)
     requires { ⌜ t ≤ 64 ⌝ }
     ensures { λ _. ⌜ now (pool .exit) ≡ zeroed tables64 t (now (pool .entry)) ⌝ }
 {
-    for i in 0..512usize {
-        write_entry(pool, t, i, 0);
+    for i in 0..paging::FRAME_WORDS {
+        paging::write_entry(pool, t, i, 0);
     }
 }
 
@@ -281,7 +244,7 @@ pub fn count_free(records: &[u64], z: Sizes, p: u64) -> u64
 }
 
 // The table that p takes next: the lowest that it may take.
-pub fn next_free(records: &[u64], z: Sizes, p: u64) -> u64
+fn next_free(records: &[u64], z: Sizes, p: u64) -> u64
     requires { ⌜ Sized z ⌝ }
     ensures { λ r. ⌜ r ≡ taken (machine64 z) p (now (records .entry)) ⌝ }
 {
@@ -296,60 +259,15 @@ pub fn next_free(records: &[u64], z: Sizes, p: u64) -> u64
     n
 }
 
-// ---- walking the guest's tables
-
-// Each entry that the walk extends from gets A.
-pub fn walk_guest(words: &mut [u64], frames: u64, cr3: Guest, page: u64) -> Walked
-    requires { ⌜ (frames ≤ 256) × (cr3 .0 < 2 ^ 40) ⌝ }
-    ensures { λ r. ⌜ guestWalk (now (words .exit)) r ≡ walkGuest tables64 frames page (now (words .entry)) cr3 ⌝ }
-{
-    let mut last = cr3;
-    let mut w = Walk::start(cr3);
-    while w.level > 0 {
-        let f = w.frame;
-        let i = paging::index_of(page, w.level);
-        let e = entry_at(words, f.0, i);
-        match w.step(e, frames) {
-            Step::On(next) => {
-                write_entry(words, f.0, i, paging::set_accessed(e));
-                last = f;
-                w = next;
-            }
-            Step::Absent => return Walked::Fault(0),
-            Step::Beyond => return Walked::Fault(9),
-            Step::Complete => return Walked::Whole(last, w),
-        }
-    }
-    Walked::Whole(last, w)
-}
-
 // ---- filling
 
-pub fn guest_entry(words: &[u64], page: u64, level: u64, g: Guest) -> u64
-    requires { ⌜ (1 ≤ level) × (level ≤ 4) × (g .0 < 2 ^ 40) ⌝ }
-    ensures { λ r. ⌜ r ≡ guestEntry tables64 (now (words .entry)) page level g ⌝ }
-{
-    let i = paging::index_of(page, level);
-    entry_at(words, g.0, i)
-}
-
-pub fn host_at(map: &[u64], g: Guest) -> Host
-    ensures { λ r. ⌜ r ≡ hostOf (now (map .entry)) g ⌝ }
-{
-    if g.0 < map.len() as u64 {
-        paging::host_of(map, g)
-    } else {
-        Host(0)
-    }
-}
-
 // The level 1 shadow entry for a guest entry: W only if D is set.
-pub fn leaf_of(map: &[u64], e: u64) -> u64
+fn leaf_of(map: &[u64], e: u64) -> u64
     requires { ⌜ ((i : ℕ) → getD (now map) i 0 < 2 ^ 40) ⌝ }
     ensures { λ r. ⌜ r ≡ leafOf tables64 (now (map .entry)) e ⌝ }
 {
-    let r = shared_rights(paging::rights_of(e), 6 + paging::d_of(e));
-    let h = host_at(map, Guest(paging::frame_of(e)));
+    let r = paging::shared_rights(paging::rights_of(e), 6 + paging::d_of(e));
+    let h = paging::host_of(map, Guest(paging::frame_of(e)));
     paging::composed(r, r % 2, h.0)
 }
 
@@ -385,9 +303,9 @@ pub fn settle(
     let mut w = from;
     while w.missing > 0 {
         let i = paging::index_of(page, w.missing + 1);
-        let h = entry_at(pool, w.table, i);
+        let h = paging::entry_at(pool, w.table, i);
         let g = w.frame;
-        let e = guest_entry(words, page, w.missing + 1, g);
+        let e = guest::guest_entry(words, page, w.missing + 1, g);
         if !agrees(records, z, h, e) {
             cut_entry(pool, records, z, w.missing, w.table, i);
             return w;
@@ -414,11 +332,11 @@ fn hang_table(
     rights: u64,
 )
     requires { ⌜ Room z (now records) ⌝ }
-    requires { ⌜ (t < tableCount (machine64 z)) × (i < 512) × (u < tableCount (machine64 z)) × (rights < 8) ⌝ }
+    requires { ⌜ (t < tableCount (machine64 z)) × (i < frameWords) × (u < tableCount (machine64 z)) × (rights < 8) ⌝ }
     ensures { λ _. ⌜ shadowOf (now (pool .exit)) (now (records .exit)) ≡ hang (machine64 z) t i u level g rights (shadowOf (now (pool .entry)) (now (records .entry))) ⌝ }
 {
     set_record(records, u, level, g);
-    write_entry(pool, t, i, paging::composed(rights, 0, z.base + u));
+    paging::write_entry(pool, t, i, paging::composed(rights, 0, z.base + u));
 }
 
 // Takes the next missing table and hangs it below the one that stands.
@@ -436,7 +354,7 @@ fn hang_next(
     ensures { λ r. ⌜ settledAt r (shadowOf (now (pool .exit)) (now (records .exit))) ≡ hangNext (machine64 z) (now (words .entry)) p page (w .missing - 1) (w .table) (w .frame) (shadowOf (now (pool .entry)) (now (records .entry))) ⌝ }
 {
     let g = w.frame;
-    let e = guest_entry(words, page, w.missing + 1, g);
+    let e = guest::guest_entry(words, page, w.missing + 1, g);
     let u = next_free(records, z, p);
     let below = Guest(paging::frame_of(e));
     let i = paging::index_of(page, w.missing + 1);
@@ -479,6 +397,6 @@ pub fn build_path(
         w = hang_next(words, pool, records, z, p, page, w);
     }
     let g = w.frame;
-    let e = guest_entry(words, page, 1, g);
-    write_entry(pool, w.table, paging::index_of(page, 1), leaf_of(map, e));
+    let e = guest::guest_entry(words, page, 1, g);
+    paging::write_entry(pool, w.table, paging::index_of(page, 1), leaf_of(map, e));
 }

@@ -13,7 +13,10 @@ use Rattle.listing.proofs.Accepts.{event-at}
 use Rattle.tables.specs.State.{Machine, State, stateOf}
 use Rattle.shadow.specs.declared.Answer.{Answer}
 use Rattle.shadow.specs.declared.Answer.the-variants.{Done, Address, Fault, Again, NoStep, Refused}
-use Rattle.shadow.specs.After.{kindOf, Result, gives, after, started, setupRefusal, afterSetup}
+use Rattle.shadow.specs.Answer.{kindOf, Result, gives}
+use Rattle.shadow.specs.After.{after}
+use Rattle.shadow.specs.Setup.{started, afterSetup}
+use Rattle.shadow.specs.Refusals.{setupRefusal}
 use Rattle.shadow.specs.Runs.{stateAfter}
 use Rattle.render.specs.WrittenCode.{Out, outOf, written}
 use Rattle.render.proofs.Writes.{written-append}

@@ -1,4 +1,3 @@
-pub mod Copies
 pub mod Asks
 pub mod Turns
 pub mod EventLines

@@ -11,7 +11,6 @@ use Rattle.rules.specs.History.{setup64, eventAt, eventRefusal, Fit}
 use Rattle.rules.specs.Numbers.{eventsOf, questionOf}
 use Rattle.listing.proofs.Accepts.{event-at, events-length}
 use Rattle.tables.specs.State.{machine64, State}
-use Rattle.shadow.specs.After.{asSetup}
 use Rattle.sections.specs.Sections.{Got, got, refused, Puzzle, puzzleOf}
 use Rattle.puzzle.specs.Buffers.{Buffers, wordsOf}
 use Rattle.puzzle.proofs.Accepted.{accepted}
@@ -25,6 +24,7 @@ use Rattle.trainer.specs.PartsCode.{Startable}
 use Rattle.trainer.proofs.Turns.{joined-same, one-right}
 use Rattle.trainer.proofs.Puzzles.{ready}
 use Rattle.trainer.proofs.Wholes.{in-text}
+use Rattle.shadow.specs.Refusals.{asSetup}
 use Rattle.puzzle.proofs.Theorems as reads
 
 -- of one puzzle one list of bytes is printed: then a call has one result

@@ -10,6 +10,7 @@ use Rattle.puzzle.specs.Buffers.{Buffers, buffers, wordsOf}
 use Rattle.render.specs.Render.{renderRefusal}
 use Rattle.trainer.specs.declared.Written.{Written}
 use Rattle.trainer.specs.declared.Written.the-variants.{Bytes, RefusedText, Refused}
+use Rattle.sections.specs.Sizes.{textSize}
 
 -- f 0, f 1, .., f (n − 1), one behind the other
 unfoldable pub joined : ℕ → (ℕ → List ℕ) → List ℕ
@@ -22,7 +23,7 @@ posed z = buffers (z .map) (z .cr3s) (wordsOf z) (z .events) (z .questions)
 
 -- "Text is refused with 1 (over-long, line 0) first": the programs take 65,536 bytes
 abbrev pub puzzleIn : List ℕ → Got Puzzle
-puzzleIn text = cond (leb (length text) 65536) (puzzleOf text) (refused 1 0)
+puzzleIn text = cond (leb (length text) textSize) (puzzleOf text) (refused 1 0)
 
 -- the answer where this was read and so many bytes were written
 abbrev pub toldOf : Got Puzzle → ℕ → Written
@@ -38,6 +39,10 @@ bytesOf (Refused number) = 0
 abbrev pub Lines : Type 1
 Lines = Buffers → List ℕ → Type 0
 
+-- room for every output
+abbrev pub outputSize : ℕ
+outputSize = 16384
+
 module _ (Of : Lines) where
   -- "on refusal both print `R number line` and nothing else"
   abbrev pub Prints : Got Puzzle → List ℕ → Type 0
@@ -52,7 +57,7 @@ module _ (Of : Lines) where
     pub counted : r ≡ toldOf (puzzleIn text) (length bytes)
     pub holds : after ≡ bytes ++ drop (length bytes) before
 
-  -- a buffer of 16,384 bytes takes every output; one of another length is refused with 1
+  -- a buffer of this size takes every output; one of another length is refused with 1
   pub record Call (text before : List ℕ) (r : Written) (after : List ℕ) : Type 0 where
-    pub refused : (length before ≡ 16384 → ⊥) → (r ≡ Refused 1) × (after ≡ before)
-    pub printed : length before ≡ 16384 → Printed text before r after
+    pub refused : (length before ≡ outputSize → ⊥) → (r ≡ Refused 1) × (after ≡ before)
+    pub printed : length before ≡ outputSize → Printed text before r after

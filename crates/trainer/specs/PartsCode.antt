@@ -12,10 +12,13 @@ use Rattle.rules.specs.Numbers.{eventsOf, questionOf}
 use Rattle.render.specs.Render.{renderQuestion}
 use Rattle.render.specs.WrittenCode.{outOf, written}
 use Rattle.tables.specs.State.{Machine, machine64, shadowOf, State, stateOf}
-use Rattle.shadow.specs.After.{setupRefusal, started}
+use Rattle.shadow.specs.Refusals.{setupRefusal}
+use Rattle.shadow.specs.Setup.{started}
+use Rattle.slots.specs.Slots.{slotsSize}
+use Rattle.sections.specs.Sizes.{mostProcessors, wordsSize, eventsSize, questionsSize}
 use Rattle.trainer.specs.declared.Program.{Program}
 use Rattle.trainer.specs.declared.Program.the-variants.{Answers, Run}
-use Rattle.trainer.specs.Call.{joined, Lines}
+use Rattle.trainer.specs.Call.{joined, Lines, outputSize}
 use Rattle.trainer.specs.Answers.{RightOf, AnswersOf}
 use Rattle.trainer.specs.Run.{sizesOf, eventLine, RunOf}
 
@@ -45,14 +48,14 @@ module _ (map cr3s words events : List ℕ) (q : Question) where
 
 -- setup takes this map and these CR3s, whatever the buffers hold that it fills
 pub record Startable (map cr3s : List ℕ) : Type 0 where
-  pub few : length cr3s ≤ 4
-  pub taken : (pool records slots : List ℕ) → length pool ≡ 2048 * length cr3s → length records ≡ 8 * length cr3s → length slots ≡ 24 * length cr3s
+  pub few : length cr3s ≤ mostProcessors
+  pub taken : (pool records slots : List ℕ) → length pool ≡ 2048 * length cr3s → length records ≡ 8 * length cr3s → length slots ≡ slotsSize * length cr3s
       → setupRefusal (machine64 (sizesOf map cr3s)) map cr3s (stateOf [] (shadowOf pool records) slots) ≡ 0
 
 -- the lines of a run from a state were written
 pub record EventsPut (M : Machine) (map : List ℕ) (start : State) (events before : List ℕ) (r : ℕ) (after : List ℕ) : Type 0 where
   pub wrote : outOf r after ≡ written (joined (length events / 4) (eventLine M map start (eventsOf events))) (outOf 0 before)
-  pub few : r ≤ 16384
+  pub few : r ≤ outputSize
 
 -- from setup
 abbrev pub RunPut : List ℕ → List ℕ → List ℕ → List ℕ → List ℕ → ℕ → List ℕ → Type 0
@@ -62,9 +65,9 @@ RunPut map cr3s words events before r after =
 
 -- every question can be asked, and the machine can start
 pub record Printable (b : Buffers) : Type 0 where
-  pub words : length (b .words) ≤ 8192
-  pub few : length (b .questions) ≤ 48
-  pub events : length (b .events) ≤ 1024
+  pub words : length (b .words) ≤ wordsSize
+  pub few : length (b .questions) ≤ questionsSize
+  pub events : length (b .events) ≤ eventsSize
   pub starts : Startable (b .map) (b .cr3s)
   pub each : (k : ℕ) → k < length (b .questions) / 3 → Posed (b .map) (b .cr3s) (b .words) (b .events) (questionOf (b .questions) k)
 
@@ -73,7 +76,7 @@ pub record AllPut (Of : Lines) (b : Buffers) (before : List ℕ) (r : ℕ) (afte
   pub bytes : List ℕ
   pub lines : Of b bytes
   pub wrote : outOf r after ≡ written bytes (outOf 0 before)
-  pub few : r ≤ 16384
+  pub few : r ≤ outputSize
 
 -- the counts of a puzzle that stands in front of longer buffers
 pub record Counts (b : Buffers) (g p e q : ℕ) : Type 0 where

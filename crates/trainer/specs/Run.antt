@@ -8,7 +8,8 @@ use Rattle.rules.specs.Numbers.{eventsOf}
 use Rattle.tables.specs.declared.Sizes.{Sizes}
 use Rattle.tables.specs.State.{Machine, machine64, State}
 use Rattle.shadow.specs.declared.Answer.{Answer}
-use Rattle.shadow.specs.After.{kindOf, valueOf, started}
+use Rattle.shadow.specs.Answer.{kindOf, valueOf}
+use Rattle.shadow.specs.Setup.{started}
 use Rattle.shadow.specs.Runs.{answerOf}
 use Rattle.render.specs.Render.{renderEvent}
 use Rattle.trainer.specs.declared.Written.{Written}

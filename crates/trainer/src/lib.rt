@@ -11,10 +11,12 @@ ghost use Rattle.puzzle.specs.Buffers.{buffers};
 ghost use Rattle.rules.specs.Numbers.{questionOf};
 ghost use Rattle.tables.specs.State.{machine64, shadowOf, stateOf};
 ghost use Rattle.render.specs.WrittenCode.{outOf, written};
-ghost use Rattle.trainer.specs.Call.{Call, bytesOf};
+ghost use Rattle.trainer.specs.Call.{Call, bytesOf, outputSize};
 ghost use Rattle.trainer.specs.Answers.{AnswersOf};
 ghost use Rattle.trainer.specs.Run.{answerLine};
 ghost use Rattle.trainer.specs.PartsCode.{LinesOf, Posed, Found, Answered, Startable, EventsPut, RunPut, Printable, AllPut, Counts, cut};
+ghost use Rattle.slots.specs.Slots.{slotsSize};
+ghost use Rattle.sections.specs.Sizes.{wordsSize, eventsSize};
 
 // The number of bytes written for an accepted text; a refused text's number, line and bytes; or why the call was refused.
 pub enum Written {
@@ -22,6 +24,9 @@ pub enum Written {
     RefusedText(u64, u64, u64),
     Refused(u64),
 }
+
+// Room for every output.
+pub const OUTPUT_SIZE: usize = 16384;
 
 pub fn bytes_of(r: Written) -> u64
     ensures { λ n. ⌜ n ≡ bytesOf r ⌝ }
@@ -40,15 +45,6 @@ pub enum Program {
 
 // ---- answers
 
-pub fn copy(words: &mut [u64], start: &[u64])
-    requires { ⌜ length (now words) ≡ length (now start) ⌝ }
-    ensures { λ _. ⌜ now (words .exit) ≡ now (start .entry) ⌝ }
-{
-    for i in 0..start.len() {
-        words[i] = start[i];
-    }
-}
-
 // The list call leaves the stores done in the words, so each question takes a copy of the puzzle's own.
 fn ask_in(
     map: &[u64],
@@ -63,7 +59,7 @@ fn ask_in(
     requires { ⌜ (length (now words) ≡ length (now start)) × (length (now work) ≡ 640) × (length (now outcomes) ≡ 38) × Posed (now map) (now cr3s) (now start) (now events) q ⌝ }
     ensures { λ r. ⌜ Found (now (map .entry)) (now (cr3s .entry)) (now (start .entry)) (now (events .entry)) q r (now (outcomes .exit)) ⌝ }
 {
-    copy(words, start);
+    paging::copy(words, start);
     match listing::list(map, words, cr3s, events, work, outcomes, q) {
         Listed::Count(n) => n,
         Listed::Refused(_) => 0,
@@ -96,10 +92,10 @@ fn put_answer(
     events: &[u64],
     q: Question,
 ) -> usize
-    requires { ⌜ (at + 922 ≤ length (now out)) × (length (now start) ≤ 8192) × Posed (now map) (now cr3s) (now start) (now events) q ⌝ }
+    requires { ⌜ (at + 922 ≤ length (now out)) × (length (now start) ≤ wordsSize) × Posed (now map) (now cr3s) (now start) (now events) q ⌝ }
     ensures { λ r. ⌜ Answered (now (map .entry)) (now (cr3s .entry)) (now (start .entry)) (now (events .entry)) q at (now (out .entry)) r (now (out .exit)) ⌝ }
 {
-    let mut words = [0u64; 8192];
+    let mut words = [0u64; sections::WORDS_SIZE];
     let mut work = [0u8; 640];
     let mut outcomes = [0u64; 38];
     let count = ask(
@@ -135,7 +131,7 @@ fn put_answers(
     events: &[u64],
     questions: &[u64],
 ) -> usize
-    requires { ⌜ (length (now out) ≡ 16384) × Printable (buffers (now map) (now cr3s) (now start) (now events) (now questions)) ⌝ }
+    requires { ⌜ (length (now out) ≡ outputSize) × Printable (buffers (now map) (now cr3s) (now start) (now events) (now questions)) ⌝ }
     ensures { λ r. ⌜ AllPut AnswersOf (buffers (now (map .entry)) (now (cr3s .entry)) (now (start .entry)) (now (events .entry)) (now (questions .entry))) (now (out .entry)) r (now (out .exit)) ⌝ }
 {
     let n = questions.len() / 3;
@@ -169,14 +165,14 @@ fn put_events(
     z: Sizes,
     events: &[u64],
 ) -> usize
-    requires { ⌜ (length (now out) ≡ 16384) × (length (now events) ≤ 1024) ⌝ }
+    requires { ⌜ (length (now out) ≡ outputSize) × (length (now events) ≤ eventsSize) ⌝ }
     ensures { λ r. ⌜ EventsPut (machine64 z) (now (map .entry)) (stateOf (now (words .entry)) (shadowOf (now (pool .entry)) (now (records .entry))) (now (slots .entry))) (now (events .entry)) (now (out .entry)) r (now (out .exit)) ⌝ }
 {
     let n = events.len() / 4;
     let mut at = 0;
     let mut k = 0;
     while k < n {
-        let e = listing::event_at(events, k);
+        let e = rules::event_at(events, k);
         let a = shadow::event(map, words, pool, records, slots, z, e);
         at = put_reply(out, at, k, a);
         k += 1;
@@ -195,7 +191,7 @@ fn put_machine(
     slots: &mut [u64],
     events: &[u64],
 ) -> usize
-    requires { ⌜ (length (now out) ≡ 16384) × (length (now events) ≤ 1024) × Startable (now map) (now cr3s) × (length (now pool) ≡ 2048 * length (now cr3s)) × (length (now records) ≡ 8 * length (now cr3s)) × (length (now slots) ≡ 24 * length (now cr3s)) ⌝ }
+    requires { ⌜ (length (now out) ≡ outputSize) × (length (now events) ≤ eventsSize) × Startable (now map) (now cr3s) × (length (now pool) ≡ 2048 * length (now cr3s)) × (length (now records) ≡ 8 * length (now cr3s)) × (length (now slots) ≡ slotsSize * length (now cr3s)) ⌝ }
     ensures { λ r. ⌜ RunPut (now (map .entry)) (now (cr3s .entry)) (now (words .entry)) (now (events .entry)) (now (out .entry)) r (now (out .exit)) ⌝ }
 {
     let z = Sizes {
@@ -219,7 +215,7 @@ fn put_share(
     slots: &mut [u64],
     events: &[u64],
 ) -> usize
-    requires { ⌜ (length (now out) ≡ 16384) × (length (now events) ≤ 1024) × Startable (now map) (now cr3s) × (length (now pool) ≡ 8192) × (length (now records) ≡ 32) × (length (now slots) ≡ 96) ⌝ }
+    requires { ⌜ (length (now out) ≡ outputSize) × (length (now events) ≤ eventsSize) × Startable (now map) (now cr3s) × (length (now pool) ≡ 8192) × (length (now records) ≡ 32) × (length (now slots) ≡ 96) ⌝ }
     ensures { λ r. ⌜ RunPut (now (map .entry)) (now (cr3s .entry)) (now (words .entry)) (now (events .entry)) (now (out .entry)) r (now (out .exit)) ⌝ }
 {
     let p = cr3s.len();
@@ -230,14 +226,14 @@ fn put_share(
         words,
         &mut pool[..2048 * p],
         &mut records[..8 * p],
-        &mut slots[..24 * p],
+        &mut slots[..slots::SLOTS_SIZE as usize * p],
         events,
     )
 }
 
 // At most four processors.
 fn put_run(out: &mut [u8], map: &[u64], cr3s: &[u64], words: &mut [u64], events: &[u64]) -> usize
-    requires { ⌜ (length (now out) ≡ 16384) × (length (now events) ≤ 1024) × Startable (now map) (now cr3s) ⌝ }
+    requires { ⌜ (length (now out) ≡ outputSize) × (length (now events) ≤ eventsSize) × Startable (now map) (now cr3s) ⌝ }
     ensures { λ r. ⌜ RunPut (now (map .entry)) (now (cr3s .entry)) (now (words .entry)) (now (events .entry)) (now (out .entry)) r (now (out .exit)) ⌝ }
 {
     let mut pool = [0u64; 8192];
@@ -271,7 +267,7 @@ fn put_puzzle(
     q: usize,
     program: Program,
 ) -> usize
-    requires { ⌜ (length (now out) ≡ 16384) × Counts (buffers (now map) (now cr3s) (now words) (now events) (now questions)) g p e q × Printable (cut (buffers (now map) (now cr3s) (now words) (now events) (now questions)) g p e q) ⌝ }
+    requires { ⌜ (length (now out) ≡ outputSize) × Counts (buffers (now map) (now cr3s) (now words) (now events) (now questions)) g p e q × Printable (cut (buffers (now map) (now cr3s) (now words) (now events) (now questions)) g p e q) ⌝ }
     ensures { λ r. ⌜ AllPut (LinesOf program) (cut (buffers (now (map .entry)) (now (cr3s .entry)) (now (words .entry)) (now (events .entry)) (now (questions .entry))) g p e q) (now (out .entry)) r (now (out .exit)) ⌝ }
 {
     match program {
@@ -279,7 +275,7 @@ fn put_puzzle(
             out,
             &map[..g],
             &cr3s[..p],
-            &words[..512 * g],
+            &words[..paging::FRAME_WORDS * g],
             &events[..4 * e],
             &questions[..3 * q],
         ),
@@ -287,7 +283,7 @@ fn put_puzzle(
             out,
             &map[..g],
             &cr3s[..p],
-            &mut words[..512 * g],
+            &mut words[..paging::FRAME_WORDS * g],
             &events[..4 * e],
         ),
     }
@@ -297,14 +293,14 @@ fn put_puzzle(
 pub fn print(text: &[u8], output: &mut [u8], program: Program) -> Written
     ensures { λ r. ⌜ Call (LinesOf program) (now (text .entry)) (now (output .entry)) r (now (output .exit)) ⌝ }
 {
-    if output.len() != 16384 {
+    if output.len() != OUTPUT_SIZE {
         return Written::Refused(1);
     }
-    let mut map = [0u64; 16];
-    let mut cr3s = [0u64; 4];
-    let mut words = [0u64; 8192];
-    let mut events = [0u64; 1024];
-    let mut questions = [0u64; 48];
+    let mut map = [0u64; sections::MOST_FRAMES];
+    let mut cr3s = [0u64; sections::MOST_PROCESSORS];
+    let mut words = [0u64; sections::WORDS_SIZE];
+    let mut events = [0u64; sections::EVENTS_SIZE];
+    let mut questions = [0u64; sections::QUESTIONS_SIZE];
     match puzzle::read(
         text,
         &mut map,

@@ -17,7 +17,7 @@ use Rattle.paging.proofs.Indices.{index-small}
 use Rattle.paging.proofs.Rights.{rights-small}
 use Rattle.tables.specs.declared.Path.{Path}
 use Rattle.tables.specs.State.{Machine, Shadow, onPool, isFree, tableCount, homeOf, rootOf, entryCount, withEntry, named, top, nextEntry, descend, pathTo}
-use Rattle.tables.specs.Steps.{Settled, spot, guestEntry, leafOf, settle, hang, build, taken, freeCount, emptyShare}
+use Rattle.tables.specs.Steps.{Settled, spot, leafOf, settle, hang, build, taken, freeCount, emptyShare}
 use Rattle.tables.proofs.Takes.{taken-may, hang-count}
 use Rattle.tables.proofs.Owners.{owner-home, owner-kept}
 use Rattle.trees.proofs.Trees.{Able, Outside, ent, lev, shd, own, Trees, Less}
@@ -28,8 +28,9 @@ use Rattle.trees.proofs.Leaves.{leaf-beside, leaf-trees, Filled, leafOf
 use Rattle.trees.proofs.Shares.{share-trees, share-less, share-others, share-own, share-root}
 use Rattle.trees.proofs.Paths.{stands, less-full}
 use Rattle.trees.proofs.Unique.{hang-full, leaf-path, leaf-here, leaf-full}
-use Rattle.trees.proofs.Settles as settling
 use Rattle.trees.proofs.Settles.{at, Leads, Stays, stays-trans}
+use Rattle.guest.specs.GuestWalk.{guestEntry}
+use Rattle.trees.proofs.Settles as settling
 
 module _ (M : Machine) (ok : Able M) (map : List ℕ) (outside : Outside M map) (words : List ℕ) (p : ℕ) (hp : p < M .processors) (page : ℕ) (last f : Guest) (x : ℕ) where
   abbrev Y : Layout

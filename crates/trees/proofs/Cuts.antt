@@ -13,7 +13,7 @@ use Rattle.tables.proofs.Owners.{owner-kept}
 use Rattle.tables.specs.Steps.{cut}
 use Rattle.lawful.specs.Rules.{isLeaf, isRoot}
 use Rattle.trees.proofs.Trees.{Able, Outside, ent, lev, shd, own, Names, Branch, Trees, Less, Same}
-use Rattle.trees.proofs.Entries.{zero-names-none, names-by, branch-names}
+use Rattle.trees.proofs.Entries.{names-by, branch-names}
 use Rattle.trees.proofs.Falls.{live}
 use Rattle.trees.proofs.Prunes.{Below, Cleared, Zeroed, Pruned, Onward, still, cut-onward, frees}
 
@@ -53,11 +53,6 @@ module _ (M : Machine) (ok : Able M) (map : List ℕ) (outside : Outside M map) 
   pub cut-gone : ent M s′ t i ≡ 0
   cut-gone = onward .1
 
-  pub cut-beside : (k : ℕ) → k < entryCount M → (k ≡ i → ⊥) → ent M s′ t k ≡ ent M s t k
-  cut-beside k hk ne =
-      by-entry t ht k hk (λ e. e)
-      (λ d. ⊎-elim (λ (b : Below M s t i t). absurd (omega (arith, b .lower))) (λ (q : (t ≡ t) × (k ≡ i)). absurd (ne (q .1))) (d .cuttable))
-
   pub cut-record : (lev M s′ t ≡ lev M s t) × (shd M s′ t ≡ shd M s t)
   cut-record = by-record t ht (λ same. same) (λ c. absurd (omega (arith, c .below .lower)))
 
@@ -86,34 +81,6 @@ module _ (M : Machine) (ok : Able M) (map : List ℕ) (outside : Outside M map) 
   -- a live table has its record
   pub cut-kept : (v : ℕ) → v < tableCount M → 0 < lev M s′ v → (lev M s′ v ≡ lev M s v) × (shd M s′ v ≡ shd M s v)
   cut-kept v hv h = by-record v hv (λ same. same) (λ c. absurd (omega (arith, c .level)))
-
-  -- ---- who goes and who stays
-
-  -- a live table has its entries, but for the one that is cut
-  pub cut-rest : (v k : ℕ) → k < entryCount M → 0 < lev M s′ v → (v ≡ t → k ≡ i → ⊥) → ent M s′ v k ≡ ent M s v k
-  cut-rest v k hk h ne = onward .0 .rest v k hk h (λ q. ne (q .0) (q .1))
-
-  -- what an entry named goes with it
-  pub cut-goes : {v k w : ℕ} → Names M s v k w → ent M s′ v k ≡ 0 → lev M s′ w ≡ 0
-  cut-goes {v} {k} {w} m z =
-      by-entry v (m .table) k (m .index)
-      (λ e. absurd (zero-names-none M (ent M s v k) (sym e ∙ z) (rw (m .names) (m .is))))
-      (λ d. d .under w m)
-
-  -- what a live table named is live, but for the entry that is cut
-  pub cut-stays : {v k w : ℕ} → Names M s v k w → 0 < lev M s′ v → (v ≡ t → k ≡ i → ⊥) → 0 < lev M s′ w
-  cut-stays {v} {k} {w} m h ne = go (ℕ-discrete (lev M s′ w) 0)
-    where
-      e : ent M s′ v k ≡ ent M s v k
-      e = cut-rest v k (m .index) h ne
-
-      go : Dec (lev M s′ w ≡ 0) → 0 < lev M s′ w
-      go (yes z) =
-          ⊎-elim
-          (λ (q : w ≡ tableCount M). absurd (omega (arith, m .is)))
-          (λ (gone : ent M s′ v k ≡ 0). absurd (zero-names-none M (ent M s v k) (sym e ∙ gone) (rw (m .names) (m .is))))
-          (pruned .names m z)
-      go (no up) = omega arith
 
   -- ---- the trees
 

@@ -14,7 +14,7 @@ use Rattle.tables.specs.State.{Machine, Shadow, onPool, tableCount, entryCount,
 use Rattle.tables.specs.Steps.{hang}
 use Rattle.tables.proofs.Owners.{owner-kept}
 use Rattle.lawful.specs.Rules.{isMadeWith, isLeaf, isBranch, isRoot}
-use Rattle.trees.proofs.Trees.{Able, Outside, Exact, ent, lev, shd, own, Names, Branch, Trees, Same}
+use Rattle.trees.proofs.Trees.{Able, Outside, Exact, ent, lev, shd, own, Names, Branch, Trees}
 use Rattle.trees.proofs.Entries.{entry-here, entry-other, entry-exact, level-here, frame-here, level-other, frame-other, record-exact, zero-names-none, made-frame, made-names, made-small, made-rights, names-by}
 use Rattle.trees.proofs.Falls.{live}
 
@@ -64,14 +64,6 @@ module _ (M : Machine) (ok : Able M) (map : List ℕ) (outside : Outside M map) 
 
   owner-same : (v : ℕ) → own M s′ v ≡ own M s v
   owner-same = owner-kept M (s .records) (s′ .records)
-
-  pub hang-same : (v : ℕ) → (v ≡ t → ⊥) → (v ≡ u → ⊥) → Same M s s′ v
-  hang-same v nt nu = record {
-    entries = λ k h. hang-beside v k h (λ p q. nt p);
-    level = hang-others v nu .0;
-    frame = hang-others v nu .1;
-    owner = owner-same v;
-  }
 
   -- ---- who is named
 

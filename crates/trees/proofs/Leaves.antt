@@ -19,7 +19,7 @@ use Rattle.paging.proofs.Rights.{meet-small}
 use Rattle.tables.specs.State.{Machine, Shadow, onPool, tableCount, entryCount, withEntry, named}
 use Rattle.tables.specs.Steps.{leafOf}
 use Rattle.lawful.specs.Rules.{isOf, isMadeWith, isLeaf}
-use Rattle.trees.proofs.Trees.{Able, Outside, ent, lev, Names, Branch, Trees, Same}
+use Rattle.trees.proofs.Trees.{Able, Outside, ent, lev, Names, Branch, Trees}
 use Rattle.trees.proofs.Entries.{entry-here, entry-other, entry-exact, zero-names-none, names-by}
 use Rattle.trees.proofs.Falls.{leaf-names, names-branch}
 
@@ -34,9 +34,6 @@ module _ (M : Machine) (ok : Able M) (map : List ℕ) (outside : Outside M map) 
 
   pub leaf-beside : (v k : ℕ) → k < entryCount M → (v ≡ t → k ≡ i → ⊥) → ent M s′ v k ≡ ent M s v k
   leaf-beside v k h ne = entry-other M ok s (trees .exact) t i e table index small v k h (λ p q. ne (sym p) (sym q))
-
-  pub leaf-same : (v : ℕ) → (v ≡ t → ⊥) → Same M s s′ v
-  leaf-same v ne = record { entries = λ k h. leaf-beside v k h (λ p q. ne p); level = refl; frame = refl; owner = refl }
 
   -- the entry written names none
   names-none : named M e < tableCount M → ⊥

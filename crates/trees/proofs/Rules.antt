@@ -10,8 +10,9 @@ use borrow.Author.Tests.{eq-eqb, ne-eqb, lt-ltb, eqb-true}
 use Rattle.paging.specs.Numbers.{all}
 use Rattle.paging.proofs.Numbers.{all-at}
 use Rattle.paging.proofs.Tests.{both}
-use Rattle.tables.specs.State.{Machine, Shadow, State, slotCount, tableCount, rootOf, entryCount, named}
-use Rattle.tables.proofs.Counts.{by-cases}
+use Rattle.tables.specs.State.{Machine, Shadow, State, tableCount, rootOf, entryCount, named}
+use Rattle.slots.specs.Slots.{slotCount}
+use Rattle.paging.proofs.Counts.{by-cases}
 use Rattle.lawful.specs.Rules.{namesOf, recordRight, entryRight, tableRight, entryBy, tableWhole, slotRight, lawful}
 use Rattle.trees.proofs.Trees.{Able, Outside, Exact, ent, lev, Names, Branch, Trees}
 use Rattle.trees.proofs.Roots.{root-table, root-level}

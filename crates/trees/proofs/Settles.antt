@@ -17,11 +17,12 @@ use Rattle.paging.proofs.Tests.{both}
 use Rattle.paging.proofs.Indices.{index-small}
 use Rattle.tables.specs.declared.Path.{Path}
 use Rattle.tables.specs.State.{Machine, Shadow, tableCount, rootOf, entryCount, named, top, nextEntry, down, descend}
-use Rattle.tables.specs.Steps.{Settled, settledAt, spot, cut, guestEntry, agrees, settle}
+use Rattle.tables.specs.Steps.{Settled, settledAt, spot, cut, agrees, settle}
 use Rattle.trees.proofs.Trees.{Able, Outside, ent, lev, shd, own, Another, Trees, Less, Same, same-trans, another-still}
 use Rattle.trees.proofs.Roots.{root-table, root-level}
 use Rattle.trees.proofs.Cuts.{cut-trees, cut-less, cut-gone, cut-record, cut-upper, cut-level, cut-others}
 use Rattle.trees.proofs.Paths.{path-on, stands, upper-path}
+use Rattle.guest.specs.GuestWalk.{guestEntry}
 
 abbrev pub at : ℕ → ℕ → ℕ → Path
 at n t r = record { level = n; table = t; rights = r }

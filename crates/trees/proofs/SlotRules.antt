@@ -7,16 +7,14 @@ use native.Mathlib.Omega.{arith}
 use lib.Dec.{eqb, ltb, leb}
 use lib.Pow.{pow-pos}
 use borrow.Author.Tests.{eq-eqb, ne-eqb, lt-ltb, le-leb, eqb-true, ltb-true, leb-true}
-use Rattle.paging.specs.declared.Request.{Request}
-use Rattle.paging.specs.Request.{enough}
 use Rattle.paging.proofs.Tests.{both}
 use Rattle.tables.specs.declared.Path.{Path}
-use Rattle.tables.specs.State.{Machine, slotCount, markOf, pageIn, placeIn, rightsIn, tableCount, pathTo}
-use Rattle.tables.specs.Steps.{slotServes, flush, emptySlots}
-use Rattle.tables.proofs.Counts.{by-cases}
+use Rattle.tables.specs.State.{Machine, tableCount, pathTo}
+use Rattle.slots.specs.Slots.{markOf, pageIn, placeIn, rightsIn}
+use Rattle.paging.proofs.Counts.{by-cases}
 use Rattle.lawful.specs.Rules.{isOnPath, slotRight}
 use Rattle.trees.proofs.Tests.{zero-one-more}
-use Rattle.trees.proofs.Slots.{SameSlot, Empty, Room, flush-here, emptySlots-here}
+use Rattle.trees.proofs.Slots.{SameSlot, Empty}
 
 module _ {slots slots′ : List ℕ} {p k : ℕ} (same : SameSlot slots slots′ p k) where
   pub same-place : placeIn slots′ p k ≡ placeIn slots p k
@@ -24,9 +22,6 @@ module _ {slots slots′ : List ℕ} {p k : ℕ} (same : SameSlot slots slots′
 
   pub same-rights : rightsIn slots′ p k ≡ rightsIn slots p k
   same-rights = ap (λ (x : ℕ). x % 8) (same .third)
-
-  pub same-serves : (page : ℕ) (q : Request) → slotServes slots′ p page q k ≡ slotServes slots p page q k
-  same-serves page q = λ j. eqb (same .mark j) 1 && eqb (same .page j) page && enough q (same-rights j)
 
   pub same-right : (M : Machine) (pool : List ℕ) → slotRight M pool slots′ p k ≡ slotRight M pool slots p k
   unfolding slotRight
@@ -99,16 +94,6 @@ module _ (M : Machine) (pool slots : List ℕ) (p k : ℕ) where
     pub right-page : page < pages
     right-page = ltb-true page pages (asked .0)
 
-    pub right-empty : mark ≡ 0 → Empty slots p k
-    right-empty q =
-        let (two, rights) = both (eqb page 0 && eqb (placeIn slots p k) 0) (eqb (rightsIn slots p k) 0) (simp q at (asked .1)) in
-        let (one, place) = both (eqb page 0) (eqb (placeIn slots p k) 0) two in
-        record {
-          mark = q;
-          page = eqb-true page 0 one;
-          third = omega (arith, eqb-true (placeIn slots p k) 0 place, eqb-true (rightsIn slots p k) 0 rights);
-        }
-
     pub right-complete : mark ≡ 1 → placeIn slots p k < M .frames
     right-complete q = ltb-true (placeIn slots p k) (M .frames) (simp q at (asked .1))
 
@@ -133,10 +118,6 @@ module _ (M : Machine) (pool slots : List ℕ) (p k : ℕ) where
       (λ z. simp z)
       (λ some. by-cases some (λ q. simp q) (λ h. ap (λ (w : Path). ltb page pages && by-mark w) (same h)))
 
-  -- that of a complete slot does not depend on the pool
-  pub complete-any : (pool′ : List ℕ) → mark ≡ 1 → slotRight M pool′ slots p k ≡ slotRight M pool slots p k
-  complete-any pool′ q = path-right pool′ (λ h. absurd (omega arith))
-
 -- ---- after the steps
 
 module _ (M : Machine) (pool pool′ slots : List ℕ) (p k : ℕ) where
@@ -145,14 +126,3 @@ module _ (M : Machine) (pool pool′ slots : List ℕ) (p k : ℕ) where
       → (1 < markOf slots p k → pathTo M pool′ p (pageIn slots p k) (markOf slots p k - 1) ≡ pathTo M pool p (pageIn slots p k) (markOf slots p k - 1))
       → slotRight M pool slots p k ≡ true → slotRight M pool′ slots′ p k ≡ true
   stays-right same path right = same-right same M pool′ ∙ path-right M pool slots p k pool′ path ∙ right
-
-  module _ (hk : k < slotCount) (room : Room slots p) where
-    -- what a flush leaves stands on no path
-    pub flush-right : (page : ℕ) → slotRight M pool slots p k ≡ true → slotRight M pool′ (flush p page slots) p k ≡ true
-    flush-right page right =
-        by-cases (flush-here p page slots k hk room)
-        (λ x. stays-right (x .0) (λ h. by-cases (x .1) (λ z. absurd (omega arith)) (λ y. absurd (omega (arith, y .0)))) right)
-        (empty-right M pool′ (flush p page slots) p k)
-
-    pub emptySlots-right : slotRight M pool′ (emptySlots p slots) p k ≡ true
-    emptySlots-right = empty-right M pool′ (emptySlots p slots) p k (emptySlots-here p slots k hk room)

@@ -8,9 +8,8 @@ use native.Mathlib.Omega.{arith}
 use lib.ListN.{length, getD, set, length-set}
 use lib.Seq.{getD-set-same, getD-set-other}
 use Rattle.paging.specs.Numbers.{each}
-use Rattle.tables.specs.State.{slotCount, slotAt, markOf, pageIn, placeIn, rightsIn, withSlot, emptied}
-use Rattle.tables.specs.Steps.{flushed, flush, emptySlots}
-use Rattle.tables.proofs.Counts.{by-cases}
+use Rattle.slots.specs.Slots.{slotCount, slotAt, markOf, pageIn, placeIn, rightsIn, withSlot, emptied, flushed, flush, emptySlots}
+use Rattle.paging.proofs.Counts.{by-cases}
 use Rattle.slots.proofs.Flushes.{flush-empty, flush-other, flush-own, flush-partial}
 use Rattle.trees.proofs.Tests.{zero-one-more}
 

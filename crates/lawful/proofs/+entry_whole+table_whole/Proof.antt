@@ -18,7 +18,7 @@ use Rattle.lawful.proofs.table_whole.Reads as table
 use Rattle.lawful.proofs.table_whole.Kinds as table-kinds
 use Rattle.lawful.proofs.+entry_whole+table_whole.Lts-table_whole as table-lts
 use Rattle.lawful.proofs.is_leaf.Reads as is-leaf
-use Rattle.tables.proofs.entry_at.Reads as entry-at
+use Rattle.paging.proofs.entry_at.Reads as entry-at
 use Rattle.tables.proofs.named_by.Reads as named-by
 use Rattle.tables.proofs.table_count.Reads as table-count
 use Rattle.lawful.proofs.+entry_whole+table_whole.{statement}

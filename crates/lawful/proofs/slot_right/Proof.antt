@@ -4,7 +4,7 @@ use mathlib.Core.List.{List}
 use Prim.Native.Nat.{ℕ, _+_}
 use lib.ListN.{getD}
 use borrow.Author.Needs.{needs}
-use Rattle.tables.specs.State.{slotAt, markOf, pageIn}
+use Rattle.slots.specs.Slots.{slotAt, markOf, pageIn}
 use Rattle.lawful.proofs.Slots.{slot-beyond, slot-paged, slot-empty, slot-complete, slot-high, slot-partial}
 use Rattle.lawful.proofs.slot_right.Statement.{statement}
 use Rattle.lawful.proofs.slot_right.Tie as tie

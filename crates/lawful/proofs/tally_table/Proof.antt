@@ -4,7 +4,7 @@ use Prim.Native.Nat.{_-_}
 use native.Mathlib.Omega.{arith}
 use Rattle.tables.specs.State.{machine64, entryOf, named}
 use Rattle.tables.proofs.Names.{few}
-use Rattle.tables.proofs.Counts.{by-cases}
+use Rattle.paging.proofs.Counts.{by-cases}
 use Rattle.lawful.proofs.Tallies.{Tallying, tally-begin, tally-end, tally-small, tally-hit, tally-miss}
 use Rattle.lawful.proofs.tally_table.Statement.{statement}
 use Rattle.lawful.proofs.tally_table.Tie as tie

@@ -1,42 +1,27 @@
--- The first n words become 0. At every turn those passed are 0, and those from n on are as they were.
-use mathlib.Core.Path.{_≡_, refl, _∙_, subst}
-use Prim.Native.Nat.{ℕ, _-_, _≤_}
-use native.Mathlib.Omega.{arith}
-use lib.ListN.{length, take, drop, replicate, length-set}
-use lib.Seq.{drop-set-lt}
-use Rattle.puzzle.proofs.Fills.{zeros-more, zeros-all}
+-- The front of the words becomes 0, the rest stays.
+use mathlib.Core.Path.{sym, ap, ap₂, _∙_}
+use mathlib.Core.List.{List, _++_}
+use Prim.Native.Nat.{ℕ}
+use lib.ListN.{drop, replicate, length-replicate}
+use lib.Seq.{length-take-le}
+use borrow.Author.Needs.{needs}
+use Rattle.puzzle.specs.Buffers.{laid}
 use Rattle.puzzle.proofs.clear.Statement.{statement}
 use Rattle.puzzle.proofs.clear.Tie as tie
 
-abbrev Inv-loop : tie.InvT-loop
-Inv-loop words₀ n i₀ words i =
-    (i ≤ n) × (length words ≡ length words₀) × (take i words ≡ replicate i 0) × (drop n words ≡ drop n words₀)
-
-abbrev μ-loop : tie.MeasureT-loop
-μ-loop words₀ n i₀ words i = n - i
-
-loop-again : tie.Need-loop-again Inv-loop μ-loop
-loop-again c =
-    let l = c .before .loop in
-    (omega arith, simp length-set (l .inv .1), zeros-more (l .words) (l .i) (omega arith) (l .inv .2), drop-set-lt (c .before .before .args .n) (l .words) (l .i) 0 (omega arith) ∙ l .inv .3)
-
-returns : tie.Need-returns Inv-loop μ-loop
+returns : tie.Need-returns
+unfolding laid
 returns c =
-    let l = c .before .loop in
-    let e : l .i ≡ c .before .before .args .n = omega arith in
-    zeros-all (l .words) (c .before .before .args .words .now) (c .before .before .args .n) (subst (λ (n : ℕ). take n (l .words) ≡ replicate n 0) e (l .inv .2)) (l .inv .3)
+    let s = c .before .before .before .before .before in
+    let zeros = c .before .before .zero .ensures ∙ ap (λ (k : ℕ). replicate k 0) (length-take-le (s .args .n) (s .args .words .now) (s .pre)) in
+    ap₂ (λ (a b : List ℕ). a ++ b) zeros (ap (λ (k : ℕ). drop k (s .args .words .now)) (sym (length-replicate (s .args .n) 0)))
 
 pub clear-spec : {M : Type 1} → statement M
 clear-spec =
     tie.close
     (tie.spec
-    Inv-loop
-    μ-loop
-    (λ c. (omega arith, refl, refl, refl))
-    (λ c. omega arith)
-    (λ c. omega arith)
-    (λ c. omega arith)
-    (λ c. omega arith)
-    loop-again
-    (λ c. c .before .loop .inv .1)
+    (λ c. search needs)
+    (λ c. sym (length-take-le (c .before .before .args .n) (c .before .before .args .words .now) (c .before .before .pre)))
+    (λ c κs. search needs)
+    (λ c. search needs)
     returns)

@@ -1,19 +1,19 @@
 -- By the tag: an address line or a fault line.
 use mathlib.Core.Path.{_≡_, ap, _∙_}
 use mathlib.Core.List.{List, [], _∷_}
-use Prim.Native.Nat.{ℕ, _+_, _*_, _%_, _^_, _<_}
+use Prim.Native.Nat.{ℕ, _^_, _<_}
 use native.Mathlib.Omega.{arith}
-use lib.ListN.{getD}
 use borrow.Author.Needs.{needs}
 use borrow.Author.Tests.{eq-eqb, ne-eqb}
 use Rattle.paging.specs.declared.Host.{Host}
+use Rattle.paging.specs.Frame.{guest, hostOf, hostAddress}
 use Rattle.render.specs.Render.{line}
 use Rattle.render.specs.WrittenCode.{outOf, written}
 use Rattle.render.specs.LinesCode.{pairLine}
 use Rattle.render.proofs.put_outcome.Statement.{statement}
 use Rattle.render.proofs.put_outcome.Tie as tie
 
-address-line : (map : List ℕ) (addr tag v : ℕ) → tag ≡ 0 → line 65 (v ∷ (getD map v 0 * 4096 + addr % 4096) ∷ []) ≡ pairLine map addr tag v
+address-line : (map : List ℕ) (addr tag v : ℕ) → tag ≡ 0 → line 65 (v ∷ hostAddress (hostOf map (guest v)) addr ∷ []) ≡ pairLine map addr tag v
 unfolding pairLine
 address-line map addr tag v e = simp (eq-eqb tag 0 e)
 
@@ -31,7 +31,7 @@ returns c =
     let e = c .before .before .put-line .ensures in
     let o = outOf (a .at) (a .out .now) in (
       e .0
-          ∙ ap (λ (h : Host). written (line 65 (a .v ∷ (h .0 * 4096 + a .addr % 4096) ∷ [])) o) (c .before .before .before .before .before .before .host-of .ensures)
+          ∙ ap (λ (h : Host). written (line 65 (a .v ∷ hostAddress h (a .addr) ∷ [])) o) (c .before .before .before .before .before .before .host-of .ensures)
           ∙ ap (λ (l : List ℕ). written l o) (address-line (a .map .now) (a .addr) (a .tag) (a .v) (c .before .before .before .before .before .before .before .if1 .taken)),
       omega (arith, e .1),
     )

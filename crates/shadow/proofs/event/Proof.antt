@@ -5,7 +5,9 @@ use borrow.Author.Tests.{eq-eqb, ne-eqb}
 use borrow.Author.Needs.{needs}
 use Rattle.tables.specs.State.{State, shadowOf, stateOf, machine64}
 use Rattle.shadow.specs.declared.Answer.the-variants.{Refused}
-use Rattle.shadow.specs.After.{gives, callRefusal, after}
+use Rattle.shadow.specs.Answer.{gives}
+use Rattle.shadow.specs.Refusals.{callRefusal}
+use Rattle.shadow.specs.After.{after}
 use Rattle.shadow.proofs.Accepted.{ready, fitting}
 use Rattle.shadow.proofs.event.Statement.{statement}
 use Rattle.shadow.proofs.event.Tie as tie

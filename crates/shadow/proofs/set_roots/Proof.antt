@@ -9,7 +9,7 @@ use Rattle.paging.specs.Numbers.{each}
 use Rattle.paging.proofs.Numbers.{each-none, each-more}
 use Rattle.tables.specs.State.{machine64, withRecord, rootOf}
 use Rattle.tables.proofs.Names.{few, root-small}
-use Rattle.shadow.specs.After.{rooted}
+use Rattle.shadow.specs.Setup.{rooted}
 use Rattle.shadow.proofs.set_roots.Statement.{statement}
 use Rattle.shadow.proofs.set_roots.Tie as tie
 

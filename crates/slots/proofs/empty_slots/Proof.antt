@@ -4,8 +4,7 @@ use Prim.Native.Nat.{ℕ, _-_, _≤_}
 use native.Mathlib.Omega.{arith}
 use lib.ListN.{length}
 use Rattle.paging.specs.Numbers.{each}
-use Rattle.tables.specs.State.{emptied}
-use Rattle.tables.specs.Steps.{emptySlots}
+use Rattle.slots.specs.Slots.{emptied, emptySlots}
 use Rattle.paging.proofs.Numbers.{each-none, each-more}
 use Rattle.slots.proofs.empty_slots.Statement.{statement}
 use Rattle.slots.proofs.empty_slots.Tie as tie

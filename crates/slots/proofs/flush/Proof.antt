@@ -4,7 +4,7 @@ use Prim.Native.Nat.{ℕ, _-_, _≤_}
 use native.Mathlib.Omega.{arith}
 use lib.ListN.{length}
 use Rattle.paging.specs.Numbers.{each}
-use Rattle.tables.specs.Steps.{flushed, flush}
+use Rattle.slots.specs.Slots.{flushed, flush}
 use Rattle.paging.proofs.Numbers.{each-none, each-more}
 use Rattle.slots.proofs.flush.Statement.{statement}
 use Rattle.slots.proofs.flush.Tie as tie

@@ -3,7 +3,7 @@ use mathlib.Core.Path.{sym, ap, _∙_}
 use Prim.Native.Nat.{ℕ, _+_}
 use lib.ListN.{getD}
 use borrow.Author.Needs.{needs}
-use Rattle.tables.proofs.Counts.{by-cases}
+use Rattle.paging.proofs.Counts.{by-cases}
 use Rattle.slots.proofs.Flushes.{flush-empty, flush-other, flush-own, flush-partial}
 use Rattle.slots.proofs.flush_slot.Statement.{statement}
 use Rattle.slots.proofs.flush_slot.Tie as tie

@@ -3,8 +3,8 @@ use mathlib.Core.Path.{_≡_, refl, sym, _∙_}
 use Prim.Native.Nat.{_+_, _-_, _≤_}
 use native.Mathlib.Omega.{arith}
 use Rattle.paging.specs.Numbers.{firstFrom}
-use Rattle.tables.specs.Steps.{slotServes, servingSlot}
-use Rattle.tables.proofs.Counts.{first-here, first-on, first-none}
+use Rattle.slots.specs.Slots.{slotServes, servingSlot}
+use Rattle.paging.proofs.Counts.{first-here, first-on, first-none}
 use Rattle.slots.proofs.serving_slot.Statement.{statement}
 use Rattle.slots.proofs.serving_slot.Tie as tie
 

@@ -5,7 +5,7 @@ use lib.ListN.{getD}
 use borrow.Author.Tests.{eq-eqb, ne-eqb}
 use borrow.Author.Needs.{needs}
 use Rattle.paging.specs.Request.{enough}
-use Rattle.tables.specs.State.{markOf, pageIn}
+use Rattle.slots.specs.Slots.{markOf, pageIn}
 use Rattle.slots.proofs.slot_serves.Statement.{statement}
 use Rattle.slots.proofs.slot_serves.Tie as tie
 

@@ -11,12 +11,12 @@ use Rattle.paging.specs.Layout.{tables64, put}
 use Rattle.tables.specs.State.{shadowOf}
 use Rattle.tables.proofs.Names.{few}
 use Rattle.paging.proofs.Numbers.{each-none}
-use Rattle.tables.proofs.Counts.{by-cases}
+use Rattle.paging.proofs.Counts.{by-cases}
 use Rattle.tables.proofs.Frees.{Turned, turn, cut-freed, cut-kept, table-none, table-some}
 use Rattle.tables.proofs.table_count.Reads as table-count
-use Rattle.tables.proofs.entry_at.Reads as entry-at
+use Rattle.paging.proofs.entry_at.Reads as entry-at
 use Rattle.tables.proofs.named_by.Reads as named-by
-use Rattle.tables.proofs.write_entry.Reads as write-entry
+use Rattle.paging.proofs.write_entry.Reads as write-entry
 use Rattle.tables.proofs.set_record.Reads as set-record
 use Rattle.tables.proofs.free_table.Reads as own
 use Rattle.tables.proofs.free_table.Kinds as kinds

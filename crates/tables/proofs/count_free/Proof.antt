@@ -6,7 +6,7 @@ use Rattle.paging.specs.Numbers.{count}
 use Rattle.tables.specs.State.{machine64}
 use Rattle.tables.specs.Steps.{mayTake, freeCount}
 use Rattle.tables.proofs.Names.{few}
-use Rattle.tables.proofs.Counts.{by-cases, sum-none, count-hit, count-miss, count-small}
+use Rattle.paging.proofs.Counts.{by-cases, sum-none, count-hit, count-miss, count-small}
 use Rattle.tables.proofs.count_free.Statement.{statement}
 use Rattle.tables.proofs.count_free.Tie as tie
 

@@ -20,18 +20,18 @@ composed-requires : tie.Need-composed-requires
 composed-requires c κs = (
   omega (arith, c .before .before .shared-rights .ensures, meet-small (c .before .before .before .before .rights-of .result) (6 + c .before .before .before .d-of .result)),
   omega arith,
-  omega (arith, ap (λ (h : Host). h .0) (c .host-at .ensures), c .before .before .before .before .before .before .pre (c .before .frame-of .result)),
+  omega (arith, ap (λ (h : Host). h .0) (c .host-of .ensures), c .before .before .before .before .before .before .pre (c .before .frame-of .result)),
 )
 
 returns : tie.Need-returns
 unfolding leafOf
 returns c =
     let r = c .before .before .before .shared-rights .result in
-    let h = ap (λ (h : Host). h .0) (c .before .host-at .ensures ∙ ap (λ (f : ℕ). hostOf (c .before .before .before .before .before .before .before .args .map .now) (guest f)) (c .before .before .frame-of .ensures)) in
+    let h = ap (λ (h : Host). h .0) (c .before .host-of .ensures ∙ ap (λ (f : ℕ). hostOf (c .before .before .before .before .before .before .before .args .map .now) (guest f)) (c .before .before .frame-of .ensures)) in
     let shared = c .before .before .before .shared-rights .ensures ∙ ap₂ (λ (a d : ℕ). meet a (6 + d)) (c .before .before .before .before .before .rights-of .ensures) (c .before .before .before .before .d-of .ensures) in
     let low : r % 2 ≡ bit r 0 = omega arith in
     c .composed .ensures
-    ∙ ap (λ (d : ℕ). compose tables64 r d (c .before .host-at .result .0)) low
+    ∙ ap (λ (d : ℕ). compose tables64 r d (c .before .host-of .result .0)) low
     ∙ ap₂ (λ (x f : ℕ). compose tables64 x (bit x 0) f) shared h
 
 pub leaf-of-spec : {M : Type 1} → statement M

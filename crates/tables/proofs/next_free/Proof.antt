@@ -6,7 +6,7 @@ use Rattle.paging.specs.Numbers.{firstFrom}
 use Rattle.tables.specs.State.{machine64}
 use Rattle.tables.specs.Steps.{mayTake, taken}
 use Rattle.tables.proofs.Names.{few}
-use Rattle.tables.proofs.Counts.{first-here, first-on, first-none}
+use Rattle.paging.proofs.Counts.{first-here, first-on, first-none}
 use Rattle.tables.proofs.next_free.Statement.{statement}
 use Rattle.tables.proofs.next_free.Tie as tie
 
