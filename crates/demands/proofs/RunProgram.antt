@@ -25,9 +25,7 @@ use Rattle.demands.proofs.Setups.{setup-fits}
 use Rattle.demands.proofs.Given.{given}
 use Rattle.demands.specs.RunProgram.{machineFor, runFor, printedFor}
 use Rattle.promise.proofs.Lossless.{none-lost}
-use Rattle.slots.specs.Slots.{slotCount}
 use Rattle.shadow.specs.Setup.{started}
-use Rattle.shadow.specs.Refusals.{setupRefusal}
 use Rattle.promise.specs.Demand as D
 
 module _ (z : Puzzle) where

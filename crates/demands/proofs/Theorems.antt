@@ -32,9 +32,8 @@ use Rattle.flamecurl.specs.Exports.{eventNumbers, ListExport, SetupExport, Even
 use Rattle.demands.specs.Refuses.{Refuses, readNumber, readLine}
 use Rattle.demands.specs.Play.{Play, guest, EndsInTwo}
 use Rattle.demands.specs.RunProgram.{machineFor, runFor, printedFor}
-use Rattle.shadow.specs.Answer.{gives}
 use Rattle.shadow.specs.Refusals.{callRefusal, setupRefusal}
-use Rattle.shadow.specs.Setup.{afterSetup, started}
+use Rattle.shadow.specs.Setup.{started}
 use Rattle.shadow.proofs.Theorems as shadow
 use Rattle.trainer.proofs.Theorems as trainer
 use Rattle.promise.proofs.Theorems as promise

@@ -4,7 +4,7 @@ use mathlib.Core.List.{List}
 use Prim.Native.Nat.{ℕ}
 use lib.Dec.{eqb}
 use Rattle.rules.specs.declared.Event.{Event}
-use Rattle.tables.specs.State.{Machine, State, recordSize}
+use Rattle.tables.specs.State.{Machine, State}
 use Rattle.shadow.specs.declared.Answer.the-variants.{Refused}
 use Rattle.shadow.specs.Answer.{Result, gives}
 use Rattle.shadow.specs.Moves.{Move, store, invlpg, writeCr3, access, begin, extend, drop, afterBegin, afterCr3, afterDrop, afterExtend, afterInvlpg, afterStore, decode}

@@ -8,7 +8,7 @@ use Rattle.paging.specs.Frame.{guest, hostOf}
 use Rattle.paging.specs.Layout.{Layout, bit, put, index, frameOf, rightsOf, compose}
 use Rattle.paging.specs.Walk.{meet}
 use Rattle.tables.specs.declared.Spot.{Spot}
-use Rattle.paging.specs.Numbers.{each, first, count}
+use Rattle.paging.specs.Numbers.{each, count}
 use Rattle.tables.specs.State.{Machine, Shadow, shadowOf, onPool, onRecords, shadows, withRecord, isFree, tableCount, homeOf, rootOf, owns, entryCount, entryOf, withEntry, named}
 use Rattle.guest.specs.GuestWalk.{guestEntry}
 

@@ -1,12 +1,12 @@
 -- A refusal stays; after the last section stands the end, past the blanks, or what is left over.
-use mathlib.Core.Path.{_≡_, refl, sym, ap, _∙_}
+use mathlib.Core.Path.{refl, sym, ap, _∙_}
 use native.Mathlib.Omega.{arith}
 use lib.ListN.{length}
 use borrow.Author.Needs.{needs}
 use borrow.Author.Tests.{eq-eqb, ne-eqb}
 use mathlib.Mathlib.Logic.Function.Defs.{id as at}
 use Rattle.cursor.specs.declared.Cursor.{Cursor}
-use Rattle.cursor.specs.Text.{Stands, pastBlanks}
+use Rattle.cursor.specs.Text.{pastBlanks}
 use Rattle.cursor.proofs.DigitRuns.{here-inside}
 use Rattle.puzzle.specs.declared.ReadResult.the-variants.{Refused}
 use Rattle.puzzle.proofs.Cases.{end-by}
