@@ -21,9 +21,8 @@ abbrev pub questionLines : List ℕ → Question → List ℕ → List ℕ
 questionLines map q ns =
     line 81 (q .proc ∷ q .addr ∷ q .request ∷ (length ns / 2) ∷ []) ++ pairLines map (q .addr) ns
 
--- the frame of a pair is mapped, and its host address is a number of 64 bits
+-- the host address of a pair is a number of 64 bits
 pub record Mapped (map : List ℕ) (tag v : ℕ) : Type 0 where
-  pub inside : tag ≡ 0 → v < length map
   pub small : tag ≡ 0 → getD map v 0 < 2 ^ 40
 
 abbrev pub AllMapped : List ℕ → List ℕ → Type 0

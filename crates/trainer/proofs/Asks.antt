@@ -27,11 +27,11 @@ use Rattle.listing.specs.declared.Listed.{Listed}
 use Rattle.listing.specs.Call.{Asked, Lent, asked, lent, countOf, pairs, ListCall}
 use Rattle.rules.specs.Numbers.{eventsOf}
 use Rattle.listing.proofs.Pairs.{pairs-length}
-use Rattle.listing.proofs.Accepts as accepts
 use Rattle.render.specs.Render.{line, renderOutcomes, renderQuestion}
 use Rattle.render.specs.LinesCode.{pairLine, pairLines, questionLines, Mapped, AllMapped}
 use Rattle.trainer.specs.Answers.{RightOf}
 use Rattle.trainer.specs.PartsCode.{Posed, Found}
+use Rattle.listing.proofs.Accepts as accepts
 
 -- ---- the list call
 
@@ -94,7 +94,7 @@ module _ (map cr3s start events : List ℕ) (q : Question) (p : Posed map cr3s s
 -- ---- pairs
 
 one-mapped : (map : List ℕ) (tag v : ℕ) → ((f : ℕ) → f < length map → getD map f 0 < 2 ^ 40) → (tag ≡ 0 → v < length map) → Mapped map tag v
-one-mapped map tag v hosts h = record { inside = h; small = λ e. hosts v (h e) }
+one-mapped map tag v hosts h = record { small = λ e. hosts v (h e) }
 
 -- behind one pair
 pair-later : (map : List ℕ) (tag v : ℕ) (ns : List ℕ) (k : ℕ) → Mapped map (getD ns (2 * k) 0) (getD ns (2 * k + 1) 0)

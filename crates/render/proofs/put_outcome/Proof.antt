@@ -1,7 +1,7 @@
 -- By the tag: an address line or a fault line.
 use mathlib.Core.Path.{_≡_, ap, _∙_}
 use mathlib.Core.List.{List, [], _∷_}
-use Prim.Native.Nat.{ℕ, _^_, _<_}
+use Prim.Native.Nat.{ℕ}
 use native.Mathlib.Omega.{arith}
 use borrow.Author.Needs.{needs}
 use borrow.Author.Tests.{eq-eqb, ne-eqb}
@@ -21,9 +21,8 @@ fault-line : (map : List ℕ) (addr tag v : ℕ) → (tag ≡ 0 → ⊥) → lin
 unfolding pairLine
 fault-line map addr tag v e = simp (ne-eqb tag 0 e)
 
--- the host frame
-host : (c : tie.After-struct-known) → c .before .before .host-of .result .0 < 2 ^ 40
-host c = omega (arith, c .before .before .before .before .before .before .pre .1 .small (c .before .before .before .if1 .taken), ap (λ (h : Host). h .0) (c .before .before .host-of .ensures))
+host-address-requires : tie.Need-host-address-requires
+host-address-requires c κs = omega (arith, c .before .before .before .before .pre .1 .small (c .before .if1 .taken), ap (λ (h : Host). h .0) (c .host-of .ensures))
 
 returns : tie.Need-returns
 returns c =
@@ -31,7 +30,7 @@ returns c =
     let e = c .before .before .put-line .ensures in
     let o = outOf (a .at) (a .out .now) in (
       e .0
-          ∙ ap (λ (h : Host). written (line 65 (a .v ∷ hostAddress h (a .addr) ∷ [])) o) (c .before .before .before .before .before .before .host-of .ensures)
+          ∙ ap (λ (x : ℕ). written (line 65 (a .v ∷ x ∷ [])) o) (c .before .before .before .before .before .host-address .ensures ∙ ap (λ (h : Host). hostAddress h (a .addr)) (c .before .before .before .before .before .before .host-of .ensures))
           ∙ ap (λ (l : List ℕ). written l o) (address-line (a .map .now) (a .addr) (a .tag) (a .v) (c .before .before .before .before .before .before .before .if1 .taken)),
       omega (arith, e .1),
     )
@@ -48,9 +47,8 @@ pub put-outcome-spec : {M : Type 1} → statement M
 put-outcome-spec =
     tie.close
     (tie.spec
-    (λ c κs. c .before .before .before .pre .1 .inside (c .if1 .taken))
-    (λ c. omega (arith, host c))
-    (λ c. omega (arith, host c))
+    (λ c κs. tt)
+    host-address-requires
     (λ c. search needs)
     (λ c κs. search needs)
     (λ c. search needs)
