@@ -11,7 +11,7 @@ use Rattle.tables.specs.State.{State, machine64}
 use Rattle.listing.specs.declared.Listed.{Listed}
 use Rattle.listing.specs.Call.{Asked, Lent, ListCall}
 use Rattle.listing.proofs.Theorems as listing
-use Rattle.shadow.specs.After as specs
+use Rattle.shadow.specs.Answer as specs
 use Rattle.shadow.proofs.Theorems as shadow
 use Rattle.puzzle.specs.declared.ReadResult.{ReadResult}
 use Rattle.puzzle.specs.Buffers.{Buffers, After, readCall}

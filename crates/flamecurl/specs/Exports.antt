@@ -20,7 +20,8 @@ use Rattle.trainer.specs.Call.{Lines, Call}
 use Rattle.shadow.specs.Answer.{gives}
 use Rattle.shadow.specs.Setup.{afterSetup}
 use Rattle.listing.specs.Call as listing
-use Rattle.shadow.specs.After as shadow
+use Rattle.shadow.specs.Answer as shadow
+use Rattle.shadow.specs.After as machine
 use Rattle.puzzle.specs.Buffers as puzzle
 
 -- ---- sizes, events and questions go in as plain numbers
@@ -76,7 +77,7 @@ ListExport q before after = Exported 2 listNumbers (λ (r : Listed). ListCall q 
 
 abbrev pub EventExport : Sizes → List ℕ → Event → State → State → List ℕ → ℕ → List ℕ → Type 0
 EventExport z map e before after =
-    Exported 3 eventNumbers (λ (r : Answer). gives r after ≡ shadow.after (machine64 z) map before e) (after ≡ before)
+    Exported 3 eventNumbers (λ (r : Answer). gives r after ≡ machine.after (machine64 z) map before e) (after ≡ before)
 
 abbrev pub ReadExport : List ℕ → Buffers → Buffers → List ℕ → ℕ → List ℕ → Type 0
 ReadExport text before after =

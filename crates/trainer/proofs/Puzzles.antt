@@ -26,7 +26,7 @@ use Rattle.trainer.specs.Call.{posed}
 use Rattle.trainer.specs.Run.{sizesOf}
 use Rattle.trainer.specs.PartsCode.{Posed, Startable, Printable}
 use Rattle.puzzle.proofs.Theorems as reads
-use Rattle.shadow.specs.After as machine
+use Rattle.shadow.specs.Refusals as machine
 
 all-each : (n : ℕ) (f : ℕ → Bool) → ((k : ℕ) → k < n → f k ≡ true) → all n f ≡ true
 unfolding all
