@@ -88,7 +88,7 @@ module _ (M : Machine) where
   abbrev pub homeOf : ℕ → ℕ
   homeOf t = t / M .share
 
-  -- the processor that owns it, as the records say: that of its share
+  -- the processor that owns it: that of its share, whatever the records say
   unfoldable pub ownerOf : List ℕ → ℕ → ℕ
   ownerOf records t = homeOf t
 
