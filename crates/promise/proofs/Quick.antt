@@ -11,7 +11,7 @@ use Rattle.paging.specs.Request.{requestOf, enough}
 use Rattle.rules.specs.declared.Event.{Event}
 use Rattle.rules.specs.History.{eventAt}
 use Rattle.rules.proofs.Numbers.{tab-same}
-use Rattle.tables.specs.State.{Machine, State, named, descend}
+use Rattle.tables.specs.State.{Machine, State, ownerOf, named, descend}
 use Rattle.tables.specs.Steps.{leafOf, zeroed, freeCount, taken, settle, build, freeTable, emptyShare}
 use Rattle.slots.specs.Slots.{emptySlots}
 use Rattle.shadow.specs.declared.Answer.{Answer}
@@ -66,25 +66,25 @@ abbrev pub Quick : KnownRun → Type 0
 Quick n = answersBy (quickly n) (n .events) (D.begun (n .machine)) ≡ n .answers
 
 pub stored-quick : Quick stored
-unfolding stored answersBy moved each afterAccess afterMiss afterInvlpg afterBegin placeBelow afterExtend afterDrop fill settle build freeTable emptyShare emptySlots zeroed named get put index pageOf frameOf rightsOf compose isPresent meet descend servingSlot firstFrom flush flushed walkFrom step requestOf enough dirtied leafOf leafCleared freeCount taken sum withBit rooted originFrom
+unfolding stored answersBy moved each afterAccess afterMiss afterInvlpg afterBegin placeBelow afterExtend afterDrop fill settle build freeTable ownerOf emptyShare emptySlots zeroed named get put index pageOf frameOf rightsOf compose isPresent meet descend servingSlot firstFrom flush flushed walkFrom step requestOf enough dirtied leafOf leafCleared freeCount taken sum withBit rooted originFrom
 stored-quick = refl
 
 pub narrowed-quick : Quick narrowed
-unfolding narrowed answersBy moved each afterAccess afterMiss afterInvlpg afterBegin placeBelow afterExtend afterDrop fill settle build freeTable emptyShare emptySlots zeroed named get put index pageOf frameOf rightsOf compose isPresent meet descend servingSlot firstFrom flush flushed walkFrom step requestOf enough dirtied leafOf leafCleared freeCount taken sum withBit rooted originFrom
+unfolding narrowed answersBy moved each afterAccess afterMiss afterInvlpg afterBegin placeBelow afterExtend afterDrop fill settle build freeTable ownerOf emptyShare emptySlots zeroed named get put index pageOf frameOf rightsOf compose isPresent meet descend servingSlot firstFrom flush flushed walkFrom step requestOf enough dirtied leafOf leafCleared freeCount taken sum withBit rooted originFrom
 narrowed-quick = refl
 
 pub beside-quick : Quick beside
-unfolding beside answersBy moved each afterAccess afterMiss afterInvlpg afterBegin placeBelow afterExtend afterDrop fill settle build freeTable emptyShare emptySlots zeroed named get put index pageOf frameOf rightsOf compose isPresent meet descend servingSlot firstFrom flush flushed walkFrom step requestOf enough dirtied leafOf leafCleared freeCount taken sum withBit rooted originFrom
+unfolding beside answersBy moved each afterAccess afterMiss afterInvlpg afterBegin placeBelow afterExtend afterDrop fill settle build freeTable ownerOf emptyShare emptySlots zeroed named get put index pageOf frameOf rightsOf compose isPresent meet descend servingSlot firstFrom flush flushed walkFrom step requestOf enough dirtied leafOf leafCleared freeCount taken sum withBit rooted originFrom
 beside-quick = refl
 
 pub slotted-quick : Quick slotted
-unfolding slotted answersBy moved each afterAccess afterMiss afterInvlpg afterBegin placeBelow afterExtend afterDrop fill settle build freeTable emptyShare emptySlots zeroed named get put index pageOf frameOf rightsOf compose isPresent meet descend servingSlot firstFrom flush flushed walkFrom step requestOf enough dirtied leafOf leafCleared freeCount taken sum withBit rooted originFrom
+unfolding slotted answersBy moved each afterAccess afterMiss afterInvlpg afterBegin placeBelow afterExtend afterDrop fill settle build freeTable ownerOf emptyShare emptySlots zeroed named get put index pageOf frameOf rightsOf compose isPresent meet descend servingSlot firstFrom flush flushed walkFrom step requestOf enough dirtied leafOf leafCleared freeCount taken sum withBit rooted originFrom
 slotted-quick = refl
 
 pub crowded-quick : Quick crowded
-unfolding crowded answersBy moved each afterAccess afterMiss afterInvlpg afterBegin placeBelow afterExtend afterDrop fill settle build freeTable emptyShare emptySlots zeroed named get put index pageOf frameOf rightsOf compose isPresent meet descend servingSlot firstFrom flush flushed walkFrom step requestOf enough dirtied leafOf leafCleared freeCount taken sum withBit rooted originFrom
+unfolding crowded answersBy moved each afterAccess afterMiss afterInvlpg afterBegin placeBelow afterExtend afterDrop fill settle build freeTable ownerOf emptyShare emptySlots zeroed named get put index pageOf frameOf rightsOf compose isPresent meet descend servingSlot firstFrom flush flushed walkFrom step requestOf enough dirtied leafOf leafCleared freeCount taken sum withBit rooted originFrom
 crowded-quick = refl
 
 pub written-quick : Quick written
-unfolding written answersBy moved each afterAccess afterMiss afterInvlpg afterBegin placeBelow afterExtend afterDrop fill settle build freeTable emptyShare emptySlots zeroed named get put index pageOf frameOf rightsOf compose isPresent meet descend servingSlot firstFrom flush flushed walkFrom step requestOf enough dirtied leafOf leafCleared freeCount taken sum withBit rooted originFrom
+unfolding written answersBy moved each afterAccess afterMiss afterInvlpg afterBegin placeBelow afterExtend afterDrop fill settle build freeTable ownerOf emptyShare emptySlots zeroed named get put index pageOf frameOf rightsOf compose isPresent meet descend servingSlot firstFrom flush flushed walkFrom step requestOf enough dirtied leafOf leafCleared freeCount taken sum withBit rooted originFrom
 written-quick = refl

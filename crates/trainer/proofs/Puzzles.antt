@@ -19,7 +19,7 @@ use Rattle.listing.proofs.Refuses.{or-second, list-later}
 use Rattle.sections.specs.Sections.{got, Puzzle, puzzleOf}
 use Rattle.puzzle.specs.Buffers.{wordsOf}
 use Rattle.puzzle.proofs.Accepted.{accepted}
-use Rattle.shadow.proofs.Walking.{InRange}
+use Rattle.puzzle.specs.Lines.{InRange}
 use Rattle.tables.specs.State.{machine64, shadowOf, stateOf, recordSize}
 use Rattle.rules.specs.Refusal.{test, refusal}
 use Rattle.trainer.specs.Call.{posed}
