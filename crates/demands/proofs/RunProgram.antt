@@ -9,7 +9,8 @@ use Rattle.paging.specs.Numbers.{each}
 use Rattle.rules.specs.History.{eventAt}
 use Rattle.rules.specs.Numbers.{eventsOf}
 use Rattle.tables.specs.declared.Sizes.{Sizes}
-use Rattle.tables.specs.State.{Machine, machine64, shadowOf, State, stateOf, slotCount, Sized}
+use Rattle.tables.specs.State.{Machine, machine64, shadowOf, State, stateOf, slotCount}
+use Rattle.tables.specs.SizesCode.{Sized}
 use Rattle.shadow.specs.After.{after, started, setupRefusal}
 use Rattle.shadow.proofs.Starting.{accepted-sizes, setup-sized}
 use Rattle.shadow.specs.Runs.{stateAfter, answerOf}

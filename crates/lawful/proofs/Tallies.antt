@@ -11,7 +11,8 @@ use lib.Seq.{getD-set-same, getD-set-other}
 use borrow.Author.Tests.{eq-eqb, ne-eqb}
 use Rattle.paging.specs.Numbers.{sum, count}
 use Rattle.tables.specs.declared.Sizes.{Sizes}
-use Rattle.tables.specs.State.{machine64, tableCount, entryOf, named, Sized}
+use Rattle.tables.specs.State.{machine64, tableCount, entryOf, named}
+use Rattle.tables.specs.SizesCode.{Sized}
 use Rattle.tables.proofs.Names.{few}
 use Rattle.tables.proofs.Counts.{sum-none, sum-more, count-hit, count-miss, count-small}
 use Rattle.lawful.specs.TallyCode.{namesBelow, Tallied}

@@ -6,7 +6,7 @@ ghost use mathlib.Core.Path.{_≡_};
 ghost use mathlib.Core.Bool.{true};
 ghost use Prim.Native.Nat.{_*_, _≤_};
 ghost use lib.ListN.{length, take, replicate};
-ghost use Rattle.cursor.specs.Text.{Stands};
+ghost use Rattle.cursor.specs.CursorCode.{Stands};
 ghost use Rattle.sections.specs.Sections.{puzzleOf};
 ghost use Rattle.puzzle.specs.Buffers.{buffers, after, withPairs, laid, verdictOf, answer, readCall};
 ghost use Rattle.puzzle.specs.PartsCode.{lists, LongEnough, EndIs, SectionsAre, WordsBelow, Lengths, accepts};

@@ -5,7 +5,7 @@ ghost use mathlib.Core.Path.{_≡_};
 ghost use mathlib.Core.List.{[]};
 ghost use Prim.Native.Nat.{_*_, _≤_};
 ghost use lib.ListN.{length, take};
-ghost use Rattle.cursor.specs.Text.{Stands};
+ghost use Rattle.cursor.specs.CursorCode.{Stands};
 ghost use Rattle.sections.specs.Sections.{mapRange, wordRange, aRange, bRange, eventRange, questionRange, width, countRange, inRange, numbers, section};
 ghost use Rattle.sections.specs.PartsCode.{capacity, PartIs};
 

@@ -17,7 +17,8 @@ use Rattle.rules.specs.Refusal.{Test, test, refusal}
 use Rattle.rules.specs.History.{isStore, isCr3Write, isAccess, isBegin, isExtend, isDrop, eventTests, eventRefusal}
 use Rattle.rules.proofs.Ranges.{Clear, clear, event-clear}
 use Rattle.tables.specs.declared.Sizes.{Sizes}
-use Rattle.tables.specs.State.{Machine, Shadow, State, machine64, tableCount, rootOf, entryCount, entryOf, levelOf, shadows, isFree, markOf, pageIn, placeIn, rightsIn, pathTo, Sized}
+use Rattle.tables.specs.State.{Machine, Shadow, State, machine64, tableCount, rootOf, entryCount, entryOf, levelOf, shadows, isFree, markOf, pageIn, placeIn, rightsIn, pathTo}
+use Rattle.tables.specs.SizesCode.{Sized}
 use Rattle.tables.proofs.Names.{few, root-small}
 use Rattle.lawful.specs.Rules.{lawful, tableRight, tableWhole, recordRight, entryRight, isRoot, namesOf, slotRight, isOnPath}
 use Rattle.shadow.specs.After.{asSetup, rangesFit, lengthsFit, poolFits, inPool, framesFit, tooFew, callRefusal}

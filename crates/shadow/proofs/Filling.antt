@@ -11,7 +11,8 @@ use Rattle.paging.specs.Frame.{guest}
 use Rattle.paging.specs.Layout.{tables64, index, frameOf}
 use Rattle.tables.specs.declared.Sizes.{Sizes}
 use Rattle.tables.specs.declared.Spot.{Spot}
-use Rattle.tables.specs.State.{Machine, Shadow, State, stateOf, shadows, machine64, tableCount, rootOf, entryOf, named, SpotFits}
+use Rattle.tables.specs.State.{Machine, Shadow, State, stateOf, shadows, machine64, tableCount, rootOf, entryOf, named}
+use Rattle.tables.specs.SizesCode.{SpotFits}
 use Rattle.tables.specs.Steps.{Settled, settledAt, spot, cut, guestEntry, agrees, settle, build, freeCount, emptyShare, emptySlots, flush}
 use Rattle.tables.proofs.Names.{frame-small}
 use Rattle.tables.proofs.Fills.{agrees-named}

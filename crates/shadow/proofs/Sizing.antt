@@ -15,7 +15,8 @@ use Rattle.paging.specs.Numbers.{isBetween}
 use Rattle.paging.proofs.Tests.{both}
 use Rattle.paging.proofs.Numbers.{all-at, between}
 use Rattle.tables.specs.declared.Sizes.{Sizes}
-use Rattle.tables.specs.State.{Machine, Shadow, machine64, tableCount, Sized}
+use Rattle.tables.specs.State.{Machine, Shadow, machine64, tableCount}
+use Rattle.tables.specs.SizesCode.{Sized}
 use Rattle.shadow.specs.After.{rangesFit, lengthsFit, poolFits}
 
 pub record Ranged (M : Machine) : Type 0 where

@@ -13,7 +13,8 @@ use Rattle.paging.proofs.Tests.{both}
 use Rattle.rules.specs.Refusal.{test, refusal}
 use Rattle.rules.proofs.Ranges.{clear}
 use Rattle.tables.specs.declared.Sizes.{Sizes}
-use Rattle.tables.specs.State.{Machine, shadowOf, State, stateOf, machine64, tableCount, Sized}
+use Rattle.tables.specs.State.{Machine, shadowOf, State, stateOf, machine64, tableCount}
+use Rattle.tables.specs.SizesCode.{Sized}
 use Rattle.shadow.specs.declared.Answer.the-variants.{Done, Refused}
 use Rattle.shadow.specs.After.{gives, rangesFit, lengthsFit, poolFits, inPool, framesFit, rooted, setupRefusal, afterSetup}
 use Rattle.shadow.proofs.Sizing.{Ranged, ranged, pool-room, Exact, exact}

@@ -23,8 +23,8 @@ use Rattle.tables.specs.State.{machine64, shadowOf, stateOf}
 use Rattle.shadow.specs.After as machine
 use Rattle.rules.specs.Refusal.{test, refusal}
 use Rattle.trainer.specs.Call.{posed}
-use Rattle.trainer.specs.Run.{sizesOf}
-use Rattle.trainer.specs.PartsCode.{Posed, Startable, Printable}
+use Rattle.trainer.specs.Run.{sizesOf, Startable}
+use Rattle.trainer.specs.PartsCode.{Posed, Printable}
 
 all-each : (n : ℕ) (f : ℕ → Bool) → ((k : ℕ) → k < n → f k ≡ true) → all n f ≡ true
 unfolding all

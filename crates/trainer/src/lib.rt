@@ -13,8 +13,8 @@ ghost use Rattle.tables.specs.State.{machine64, shadowOf, stateOf};
 ghost use Rattle.render.specs.WrittenCode.{outOf, written};
 ghost use Rattle.trainer.specs.Call.{Call};
 ghost use Rattle.trainer.specs.Answers.{AnswersOf, AnswersCall};
-ghost use Rattle.trainer.specs.Run.{answerLine, RunCall};
-ghost use Rattle.trainer.specs.PartsCode.{LinesOf, Posed, Found, Answered, Startable, EventsPut, RunPut, Printable, AllPut, Counts, cut};
+ghost use Rattle.trainer.specs.Run.{answerLine, RunCall, Startable};
+ghost use Rattle.trainer.specs.PartsCode.{LinesOf, Posed, Found, Answered, EventsPut, RunPut, Printable, AllPut, Counts, cut};
 
 // The number of bytes written, or why the call was refused.
 pub enum Written {

@@ -13,7 +13,8 @@ use Rattle.paging.proofs.Layouts.{tables64-sound, inside, length-put, get-put, 
 use Rattle.paging.proofs.Narrow.{tables32, tables32-sound}
 use Rattle.paging.proofs.Tests.{both}
 use Rattle.tables.specs.declared.Sizes.{Sizes}
-use Rattle.tables.specs.State.{Machine, Shadow, onPool, onRecords, machine64, withRecord, tableCount, entryCount, withEntry, named, Sized}
+use Rattle.tables.specs.State.{Machine, Shadow, onPool, onRecords, machine64, withRecord, tableCount, entryCount, withEntry, named}
+use Rattle.tables.specs.SizesCode.{Sized}
 use Rattle.tables.proofs.Names.{named-absent, named-on}
 use Rattle.lawful.specs.Rules.{isMadeWith, isBranch}
 use Rattle.paging.specs.Sound.{Laid}

@@ -7,7 +7,8 @@ use lib.ListN.{length}
 use Rattle.paging.specs.Frame.{guest}
 use Rattle.paging.specs.Layout.{tables64, frameOf}
 use Rattle.paging.proofs.Indices.{index-small}
-use Rattle.tables.specs.State.{machine64, shadowOf, SpotFits}
+use Rattle.tables.specs.State.{machine64, shadowOf}
+use Rattle.tables.specs.SizesCode.{SpotFits}
 use Rattle.tables.specs.Steps.{Settled, settledAt, guestEntry, taken, freeCount, hangNext, build}
 use Rattle.tables.proofs.Names.{few, frame-small}
 use Rattle.tables.proofs.Takes.{taken-table, hang-count}
