@@ -12,7 +12,8 @@ use borrow.Author.Tests.{eq-eqb, ne-eqb, le-leb, lt-leb, lt-ltb, le-ltb, ltb-tru
 use Rattle.cursor.specs.declared.Cursor.{Cursor}
 use Rattle.cursor.specs.declared.Digits.the-variants.{Value, Big}
 use Rattle.cursor.specs.declared.Next.the-variants.{Number, Bad}
-use Rattle.cursor.specs.Text.{Stands, lineAt, cursorAt, pastBlanks, isDigit, run, valueFrom, valueOf, digitsAt, leadingZero, isNumber, nextAt}
+use Rattle.cursor.specs.Text.{lineAt, cursorAt, pastBlanks, isDigit, run, valueFrom, valueOf, leadingZero, isNumber, nextAt}
+use Rattle.cursor.specs.CursorCode.{Stands, digitsAt}
 use Rattle.cursor.proofs.Lines.{left, line-same, blanks-few}
 
 pub digit-yes : (b : ℕ) → 48 ≤ b → b ≤ 57 → isDigit b ≡ true

@@ -1,14 +1,11 @@
 -- "Decimal numbers parted by spaces and line feeds, no other bytes." What stands at a place of a text, and on which line.
 -- A text is the list of its bytes; a place is the number of bytes before it.
-use mathlib.Core.Path.{_≡_}
 use mathlib.Core.Bool.{Bool, cond, not, _&&_, _||_}
 use mathlib.Core.List.{List, [], _∷_, _++_}
-use Prim.Native.Nat.{ℕ, zero, suc, _+_, _-_, _*_, _/_, _%_, _^_, _≤_}
+use Prim.Native.Nat.{ℕ, zero, suc, _+_, _-_, _*_, _/_, _%_, _^_}
 use lib.Dec.{eqb, ltb, leb}
 use lib.ListN.{length, take, drop, getD}
 use Rattle.cursor.specs.declared.Cursor.{Cursor}
-use Rattle.cursor.specs.declared.Digits.{Digits}
-use Rattle.cursor.specs.declared.Digits.the-variants.{Value, Big}
 use Rattle.cursor.specs.declared.Next.{Next}
 use Rattle.cursor.specs.declared.Next.the-variants.{Number, Bad}
 
@@ -22,11 +19,6 @@ lineAt text at = 1 + feeds (take at text)
 
 abbrev pub cursorAt : List ℕ → ℕ → Cursor
 cursorAt text at = record { at = at; line = lineAt text at }
-
--- a cursor of this text
-pub record Stands (text : List ℕ) (c : Cursor) : Type 0 where
-  pub inside : c .at ≤ length text
-  pub lined : c .line ≡ lineAt text (c .at)
 
 -- how many spaces and line feeds stand in front
 unfoldable pub blanks : List ℕ → ℕ
@@ -65,12 +57,6 @@ unfoldable pub spaced : List ℕ → List ℕ
 spaced [] = 10 ∷ []
 spaced (n ∷ ns) = 32 ∷ digitsOf n ++ spaced ns
 
--- the run of digits at a place: its value and the place after it
-abbrev pub digitsAt : List ℕ → ℕ → Digits
-digitsAt text at =
-    let digits = run (drop at text) in
-    cond (ltb (valueOf digits) (2 ^ 64)) (Value (valueOf digits) (at + length digits)) Big
-
 abbrev pub leadingZero : List ℕ → Bool
 leadingZero digits = eqb (getD digits 0 0) 48 && ltb 1 (length digits)
 
@@ -85,13 +71,3 @@ nextAt text at =
     let here = pastBlanks text at in
     let digits = run (drop here text) in
     cond (isNumber digits) (Number (valueOf digits) (cursorAt text (here + length digits))) (Bad (lineAt text here))
-
--- the cursor past a number; where there is none it stays
-abbrev pub pastNumber : Next → Cursor → Cursor
-pastNumber (Number v after) c = after
-pastNumber (Bad line) c = c
-
--- a step over a lent cursor: its answer, and the cursor after it
-pub record Stepped (text : List ℕ) (c : Cursor) (r : Next) (after : Cursor) : Type 0 where
-  pub answer : r ≡ nextAt text (c .at)
-  pub moved : after ≡ pastNumber r c

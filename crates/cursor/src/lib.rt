@@ -2,7 +2,8 @@
 ghost use mathlib.Core.Path.{_≡_};
 ghost use Prim.Native.Nat.{_≤_};
 ghost use lib.ListN.{length};
-ghost use Rattle.cursor.specs.Text.{Stands, cursorAt, pastBlanks, digitsAt, nextAt, pastNumber, Stepped};
+ghost use Rattle.cursor.specs.Text.{cursorAt, pastBlanks, nextAt};
+ghost use Rattle.cursor.specs.CursorCode.{Stands, digitsAt, pastNumber, Stepped};
 
 // "The reader knows at each byte which line it has reached"
 pub struct Cursor {

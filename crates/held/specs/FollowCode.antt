@@ -1,10 +1,11 @@
 -- What the functions of this crate do to the bytes, each in the form of its code. Nobody has to believe these: proofs/
 -- shows that they mark exactly the held walks.
+use mathlib.Core.Path.{_≡_}
 use mathlib.Core.Bool.{Bool, cond}
 use mathlib.Core.List.{List}
-use Prim.Native.Nat.{ℕ, zero, suc, _+_, _-_, _/_}
+use Prim.Native.Nat.{ℕ, zero, suc, _+_, _-_, _*_, _/_, _≤_}
 use lib.Dec.{eqb}
-use lib.ListN.{getD, set}
+use lib.ListN.{length, getD, set}
 use Rattle.paging.specs.declared.Guest.{Guest}
 use Rattle.paging.specs.declared.Walk.{Walk}
 use Rattle.paging.specs.declared.Step.{Step}
@@ -14,6 +15,12 @@ use Rattle.paging.specs.Frame.{guest}
 use Rattle.paging.specs.Layout.{Layout, frameWords, get, index}
 use Rattle.paging.specs.Walk.{start, step}
 use Rattle.held.specs.Work.{cell, workBytes}
+
+-- what every function below asks of its buffers
+pub record Room (G : ℕ) (words work : List ℕ) : Type 0 where
+  pub few : G ≤ 256
+  pub whole : length words ≡ frameWords * G
+  pub bytes : workBytes G ≤ length work
 
 abbrev pub isSet : ℕ → List ℕ → Walk → Bool
 isSet G work w = eqb (getD work (cell G w) 0) 1

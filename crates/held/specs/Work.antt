@@ -6,7 +6,6 @@ use mathlib.Core.List.{List}
 use Prim.Native.Nat.{ℕ, _+_, _*_, _≤_, _<_}
 use lib.ListN.{length, getD}
 use Rattle.paging.specs.declared.Walk.{Walk}
-use Rattle.paging.specs.Layout.{frameWords}
 
 abbrev pub cell : ℕ → Walk → ℕ
 cell G w = (w .level * G + w .frame .0) * 8 + w .rights
@@ -30,9 +29,3 @@ pub record WorkTells (G : ℕ) (Held : Walk → Type 0) (before after : List ℕ
   pub size : length after ≡ length before
   pub each : (w : Walk) → HasByte G w → Tells (getD after (cell G w) 0) (Held w)
   pub rest : (k : ℕ) → workBytes G ≤ k → getD after k 0 ≡ getD before k 0
-
--- what every function below asks of its buffers
-pub record Room (G : ℕ) (words work : List ℕ) : Type 0 where
-  pub few : G ≤ 256
-  pub whole : length words ≡ frameWords * G
-  pub bytes : workBytes G ≤ length work

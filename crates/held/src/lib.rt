@@ -7,8 +7,8 @@ ghost use mathlib.Core.Path.{_≡_};
 ghost use Prim.Native.Nat.{_+_, _-_, _*_, _≤_, _<_};
 ghost use lib.ListN.{length};
 ghost use Rattle.paging.specs.Layout.{tables64, frameWords};
-ghost use Rattle.held.specs.Work.{cell, workBytes, HasByte, Room};
-ghost use Rattle.held.specs.FollowCode.{stepIn, followed, reread, rereadAll, rereadAt, rereadWord, cleared, restarted};
+ghost use Rattle.held.specs.Work.{cell, workBytes, HasByte};
+ghost use Rattle.held.specs.FollowCode.{stepIn, followed, reread, rereadAll, rereadAt, rereadWord, cleared, restarted, Room};
 ghost use Rattle.paging.specs.declared.Guest.{Guest};
 
 const WORDS: u64 = paging::FRAME_WORDS as u64;

@@ -11,10 +11,11 @@ use lib.Seq.{getD-set-same, getD-set-other}
 use borrow.Author.Tests.{eq-eqb, ne-eqb}
 use Rattle.paging.specs.Numbers.{sum, count}
 use Rattle.tables.specs.declared.Sizes.{Sizes}
-use Rattle.tables.specs.State.{machine64, tableCount, entryOf, named, Sized}
+use Rattle.tables.specs.State.{machine64, tableCount, entryOf, named}
 use Rattle.tables.proofs.Names.{few}
 use Rattle.paging.proofs.Counts.{sum-none, sum-more, count-hit, count-miss, count-small}
 use Rattle.lawful.specs.TallyCode.{namesBelow, Tallied}
+use Rattle.tables.specs.SizesCode.{Sized}
 
 -- the entries of t below i are counted too
 pub record Tallying (z : Sizes) (pool counts : List ℕ) (t i : ℕ) : Type 0 where

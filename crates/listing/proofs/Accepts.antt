@@ -16,7 +16,8 @@ use Rattle.rules.specs.Refusal.{test}
 use Rattle.rules.specs.History.{Fit, eventAt, eventRefusal}
 use Rattle.rules.specs.Outcome.{questionRefusal}
 use Rattle.rules.proofs.Ranges.{Clear, clear, event-clear, cr3-within}
-use Rattle.held.specs.Work.{workBytes, Room}
+use Rattle.held.specs.Work.{workBytes}
+use Rattle.held.specs.FollowCode.{Room}
 use Rattle.listing.specs.Call.{Asked, Lent, setupAsked, sizesFit, lengthsFit, firstRefusal, listRefusal}
 use Rattle.rules.specs.Numbers.{eventOf, eventsOf}
 use Rattle.listing.specs.ReplayCode.{Reach}

@@ -7,8 +7,7 @@ use Rattle.paging.specs.Frame.{guest}
 use Rattle.paging.specs.Layout.{tables64, pageOf}
 use Rattle.paging.specs.Request.{requestOf}
 use Rattle.rules.specs.declared.Question.{Question}
-use Rattle.held.specs.Work.{Room}
-use Rattle.held.specs.FollowCode.{restarted}
+use Rattle.held.specs.FollowCode.{Room, restarted}
 use Rattle.rules.specs.Numbers.{eventOf}
 use Rattle.listing.specs.ReplayCode.{Replay, replayOf, Reach, replayed}
 use Rattle.listing.specs.CollectCode.{outOf, collected}

@@ -9,7 +9,7 @@ use rules::Question;
 ghost use mathlib.Core.Path.{_≡_};
 ghost use Prim.Native.Nat.{ℕ, _+_, _-_, _*_, _/_, _%_, _≤_, _<_};
 ghost use lib.ListN.{length};
-ghost use Rattle.held.specs.Work.{workBytes, Room};
+ghost use Rattle.held.specs.Work.{workBytes};
 ghost use mathlib.Core.List.{List};
 ghost use Rattle.rules.specs.History.{setup64, eventRefusal};
 ghost use Rattle.listing.specs.Call.{Lent, asked, lent, sizesFit, firstRefusal, listRefusal, ListCall};
@@ -17,6 +17,7 @@ ghost use Rattle.rules.specs.Numbers.{eventOf};
 ghost use Rattle.listing.specs.AnswerCode.{Answerable, Answers};
 ghost use Rattle.listing.specs.ReplayCode.{Reach, replayOf, forgets, applied, replayed};
 ghost use Rattle.listing.specs.CollectCode.{outOf, pushed, stopCode, walkAt, servesWith, serves, lacksAt, lacks, stopAt, withFault, stops, addresses, collected};
+ghost use Rattle.held.specs.FollowCode.{Room};
 
 // The number of outcomes, or why the call was refused.
 pub enum Listed {

@@ -6,7 +6,8 @@ use Prim.Native.Nat.{ℕ, _*_, _<_}
 use lib.Dec.{eqb}
 use lib.ListN.{length, take, getD}
 use Rattle.cursor.specs.declared.Cursor.{Cursor}
-use Rattle.cursor.specs.Text.{lineAt, pastBlanks, Stands}
+use Rattle.cursor.specs.Text.{lineAt, pastBlanks}
+use Rattle.cursor.specs.CursorCode.{Stands}
 use Rattle.sections.specs.declared.Section.{Section}
 use Rattle.sections.specs.declared.Part.{Part}
 use Rattle.sections.specs.declared.Part.the-variants.{Read, Refused as Unread}

@@ -10,7 +10,8 @@ use lib.ListN.{length, take, drop, set, length-set}
 use lib.Seq.{take-suc-set, drop-set-lt}
 use Rattle.cursor.specs.declared.Cursor.{Cursor}
 use Rattle.cursor.specs.declared.Next.the-variants.{Number, Bad}
-use Rattle.cursor.specs.Text.{Stands, lineAt, pastBlanks, nextAt}
+use Rattle.cursor.specs.Text.{lineAt, pastBlanks, nextAt}
+use Rattle.cursor.specs.CursorCode.{Stands}
 use Rattle.cursor.proofs.DigitRuns.{next-stands, next-line, bad-line}
 use Rattle.paging.proofs.Numbers.{between}
 use Rattle.sections.specs.declared.Section.{Section}

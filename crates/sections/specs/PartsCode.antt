@@ -4,13 +4,13 @@ use mathlib.Core.List.{List}
 use Prim.Native.Nat.{ℕ, _*_, _≤_}
 use lib.ListN.{length, take, drop}
 use Rattle.cursor.specs.declared.Cursor.{Cursor}
-use Rattle.cursor.specs.Text.{Stands}
 use Rattle.sections.specs.declared.Section.{Section}
 use Rattle.sections.specs.declared.Section.the-variants.{Map, Cr3s, Words, Events, Questions}
 use Rattle.sections.specs.declared.Part.{Part}
 use Rattle.sections.specs.declared.Part.the-variants.{Read, Refused}
 use Rattle.sections.specs.Sizes.{mostFrames, mostProcessors, pairsSize, eventsSize, questionsSize}
 use Rattle.sections.specs.Sections.{Got, got, refused}
+use Rattle.cursor.specs.CursorCode.{Stands}
 
 -- how many numbers a section has at most
 abbrev pub capacity : Section → ℕ

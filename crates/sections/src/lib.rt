@@ -6,10 +6,10 @@ ghost use mathlib.Core.Path.{_≡_};
 ghost use mathlib.Core.List.{[]};
 ghost use Prim.Native.Nat.{_*_, _≤_};
 ghost use lib.ListN.{length, take};
-ghost use Rattle.cursor.specs.Text.{Stands};
 ghost use Rattle.sections.specs.Sizes.{mostFrames};
 ghost use Rattle.sections.specs.Sections.{mapRange, wordRange, eventSoFar, eventRange, questionRange, width, countRange, inRange, numbers, section};
 ghost use Rattle.sections.specs.PartsCode.{capacity, PartIs};
+ghost use Rattle.cursor.specs.CursorCode.{Stands};
 
 // "The programs take G to 16, S = 4, 256 events, 16 questions and 65,536 bytes of text", and "P 1..4".
 pub const MOST_FRAMES: usize = 16;

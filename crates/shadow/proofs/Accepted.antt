@@ -17,13 +17,14 @@ use Rattle.rules.specs.Refusal.{Test, test, refusal}
 use Rattle.rules.specs.History.{isStore, isCr3Write, isAccess, isBegin, isExtend, isDrop, eventTests, eventRefusal}
 use Rattle.rules.proofs.Ranges.{Clear, clear, event-clear}
 use Rattle.tables.specs.declared.Sizes.{Sizes}
-use Rattle.tables.specs.State.{Machine, Shadow, State, machine64, tableCount, rootOf, entryCount, entryOf, levelOf, shadows, isFree, pathTo, Sized}
+use Rattle.tables.specs.State.{Machine, Shadow, State, machine64, tableCount, rootOf, entryCount, entryOf, levelOf, shadows, isFree, pathTo}
 use Rattle.slots.specs.Slots.{markOf, pageIn, placeIn, rightsIn}
 use Rattle.tables.proofs.Names.{few, root-small}
 use Rattle.lawful.specs.Rules.{lawful, tableRight, tableWhole, recordRight, entryRight, isRoot, namesOf, slotRight, isOnPath}
 use Rattle.shadow.specs.Refusals.{asSetup, rangesFit, lengthsFit, poolFits, inPool, framesFit, tooFew, callRefusal}
 use Rattle.shadow.specs.ReadyCode.{Ready, Standing, Fitting}
 use Rattle.shadow.proofs.Sizing.{Ranged, ranged, sized, pool-room, Exact, exact, hosts-below}
+use Rattle.tables.specs.SizesCode.{Sized}
 
 -- ---- tables of tests
 

@@ -11,13 +11,14 @@ use Rattle.paging.specs.Frame.{guest}
 use Rattle.paging.specs.Layout.{tables64, index, frameOf}
 use Rattle.tables.specs.declared.Sizes.{Sizes}
 use Rattle.tables.specs.declared.Spot.{Spot}
-use Rattle.tables.specs.State.{Machine, Shadow, State, stateOf, shadows, machine64, tableCount, rootOf, entryOf, named, SpotFits}
+use Rattle.tables.specs.State.{Machine, Shadow, State, stateOf, shadows, machine64, tableCount, rootOf, entryOf, named}
 use Rattle.tables.specs.Steps.{Settled, settledAt, spot, cut, agrees, settle, build, freeCount, emptyShare}
 use Rattle.guest.specs.GuestWalk.{guestEntry}
 use Rattle.slots.specs.Slots.{emptySlots, flush}
 use Rattle.tables.proofs.Names.{frame-small}
 use Rattle.tables.proofs.Fills.{agrees-named}
 use Rattle.shadow.specs.Fill.{fill}
+use Rattle.tables.specs.SizesCode.{SpotFits}
 
 module _ (M : Machine) (map : List ℕ) (p page : ℕ) (s : State) where
   abbrev top : ℕ

@@ -15,8 +15,9 @@ use Rattle.paging.specs.Numbers.{isBetween}
 use Rattle.paging.proofs.Tests.{both}
 use Rattle.paging.proofs.Numbers.{all-at, between}
 use Rattle.tables.specs.declared.Sizes.{Sizes}
-use Rattle.tables.specs.State.{Machine, Shadow, machine64, recordSize, tableCount, Sized}
+use Rattle.tables.specs.State.{Machine, Shadow, machine64, recordSize, tableCount}
 use Rattle.shadow.specs.Refusals.{rangesFit, lengthsFit, poolFits}
+use Rattle.tables.specs.SizesCode.{Sized}
 
 pub record Ranged (M : Machine) : Type 0 where
   pub frames : (1 ≤ M .frames) × (M .frames ≤ 256)

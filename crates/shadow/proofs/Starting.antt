@@ -13,13 +13,14 @@ use Rattle.paging.proofs.Tests.{both}
 use Rattle.rules.specs.Refusal.{test, refusal}
 use Rattle.rules.proofs.Ranges.{clear}
 use Rattle.tables.specs.declared.Sizes.{Sizes}
-use Rattle.tables.specs.State.{Machine, shadowOf, State, stateOf, machine64, tableCount, Sized}
+use Rattle.tables.specs.State.{Machine, shadowOf, State, stateOf, machine64, tableCount}
 use Rattle.shadow.specs.declared.Answer.the-variants.{Done, Refused}
 use Rattle.shadow.specs.Answer.{gives}
 use Rattle.shadow.specs.Refusals.{rangesFit, lengthsFit, poolFits, inPool, framesFit, setupRefusal}
 use Rattle.shadow.specs.Setup.{rooted, afterSetup}
 use Rattle.shadow.proofs.Sizing.{Ranged, ranged, pool-room, Exact, exact}
 use Rattle.shadow.proofs.Accepted.{first-two, neither}
+use Rattle.tables.specs.SizesCode.{Sized}
 
 module _ (M : Machine) (map cr3s : List ℕ) (s : State) where
   abbrev sizes : Bool

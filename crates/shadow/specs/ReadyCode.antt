@@ -5,8 +5,9 @@ use Prim.Native.Nat.{ℕ, _+_, _*_, _^_, _≤_, _<_}
 use lib.ListN.{length, getD}
 use Rattle.rules.specs.declared.Event.{Event}
 use Rattle.tables.specs.declared.Sizes.{Sizes}
-use Rattle.tables.specs.State.{machine64, recordSize, tableCount, rootOf, shadows, Sized}
+use Rattle.tables.specs.State.{machine64, recordSize, tableCount, rootOf, shadows}
 use Rattle.slots.specs.Slots.{slotCount, slotsSize, markOf, placeIn}
+use Rattle.tables.specs.SizesCode.{Sized}
 
 pub record Ready (z : Sizes) (map records slots : List ℕ) (p : ℕ) : Type 0 where
   pub sized : Sized z

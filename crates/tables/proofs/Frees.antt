@@ -10,7 +10,8 @@ use Rattle.paging.specs.Frame.{guest}
 use Rattle.paging.specs.Layout.{tables64, get, put}
 use Rattle.tables.specs.declared.Sizes.{Sizes}
 use Rattle.paging.specs.Numbers.{each}
-use Rattle.tables.specs.State.{Machine, Shadow, shadowOf, onPool, onRecords, machine64, withRecord, withEntry, tableCount, named, Room}
+use Rattle.tables.specs.State.{Machine, Shadow, shadowOf, onPool, onRecords, machine64, withRecord, withEntry, tableCount, named}
+use Rattle.tables.specs.SizesCode.{Room}
 use Rattle.tables.specs.Steps.{cut, freeTable}
 use Rattle.paging.proofs.Numbers.{each-more}
 

@@ -8,7 +8,8 @@ use lib.Dec.{ltb, leb}
 use borrow.Author.Tests.{lt-ltb, le-ltb, le-leb, lt-leb, ltb-true}
 use Rattle.paging.specs.Layout.{tables64, frameOf, isPresent}
 use Rattle.tables.specs.declared.Sizes.{Sizes}
-use Rattle.tables.specs.State.{Machine, machine64, tableCount, rootOf, named, Sized}
+use Rattle.tables.specs.State.{Machine, machine64, tableCount, rootOf, named}
+use Rattle.tables.specs.SizesCode.{Sized}
 
 pub frame-small : (e : ℕ) → frameOf tables64 e < 2 ^ 40
 unfolding frameOf

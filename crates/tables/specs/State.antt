@@ -2,9 +2,9 @@
 use mathlib.Core.Path.{_≡_}
 use mathlib.Core.Bool.{Bool, true, cond, _&&_}
 use mathlib.Core.List.{List}
-use Prim.Native.Nat.{ℕ, zero, suc, _+_, _-_, _*_, _/_, _^_, _≤_, _<_}
+use Prim.Native.Nat.{ℕ, zero, suc, _+_, _-_, _*_, _/_, _^_, _<_}
 use lib.Dec.{eqb, ltb, leb}
-use lib.ListN.{length, getD, set}
+use lib.ListN.{getD, set}
 use Rattle.paging.specs.declared.Guest.{Guest}
 use Rattle.paging.specs.Frame.{guest}
 use Rattle.paging.specs.Layout.{Layout, tables64, get, put, index, frameOf, rightsOf, isPresent}
@@ -13,7 +13,6 @@ use Rattle.paging.specs.Walk.{meet}
 use Rattle.paging.proofs.Numbers.{first-found}
 use Rattle.tables.specs.declared.Sizes.{Sizes}
 use Rattle.tables.specs.declared.Path.{Path}
-use Rattle.tables.specs.declared.Spot.{Spot}
 
 -- A way to pick one of the numbers below n that pass a test is fair if it picks one that passes, where there is one.
 abbrev pub Fair : (ℕ → (ℕ → Bool) → ℕ) → Type 0
@@ -133,22 +132,3 @@ module _ (M : Machine) where
   -- the path of a page from p's root to level l
   abbrev pub pathTo : List ℕ → ℕ → ℕ → ℕ → Path
   pathTo pool p page l = descend pool page (M .tables .levels - l) (top p)
-
--- Sizes that the event call has found in range. The functions below it ask for no more.
-pub record Sized (z : Sizes) : Type 0 where
-  pub frames : z .frames ≤ 256
-  pub processors : z .processors ≤ 4
-  pub some : 0 < z .share
-  pub share : z .share ≤ 16
-  pub pool : z .base + z .processors * z .share ≤ 2 ^ 40
-
--- with the records of all tables
-pub record Room (z : Sizes) (records : List ℕ) : Type 0 where
-  pub sized : Sized z
-  pub pairs : length records ≡ recordSize * tableCount (machine64 z)
-
--- a fill stands on one of the tables
-pub record SpotFits (z : Sizes) (w : Spot) : Type 0 where
-  pub missing : w .missing ≤ 3
-  pub table : w .table < tableCount (machine64 z)
-  pub frame : w .frame .0 < 2 ^ 40

@@ -3,8 +3,9 @@ ghost use mathlib.Core.Path.{_≡_};
 ghost use Prim.Native.Nat.{ℕ, _+_, _-_, _*_, _^_, _<_, _≤_};
 ghost use lib.ListN.{length, getD};
 ghost use Rattle.paging.specs.Layout.{tables64, frameWords};
-ghost use Rattle.tables.specs.State.{Sized, Room, SpotFits, machine64, shadowOf, recordSize, levelOf, shadows, withRecord, tableCount, homeOf, ownerOf, rootOf, named, down, pathTo};
+ghost use Rattle.tables.specs.State.{machine64, shadowOf, recordSize, levelOf, shadows, withRecord, tableCount, homeOf, ownerOf, rootOf, named, down, pathTo};
 ghost use Rattle.tables.specs.Steps.{freeTable, cut, zeroed, emptyOwn, emptyShare, mayTake, freeCount, taken, hang, hangNext, leafOf, agrees, settle, settledAt, build};
+ghost use Rattle.tables.specs.SizesCode.{Sized, Room, SpotFits};
 use paging::Guest;
 
 // "G frames", "P processors", "a share of S shadow tables", and the pool base.

@@ -23,8 +23,8 @@ use Rattle.puzzle.specs.Lines.{InRange}
 use Rattle.tables.specs.State.{machine64, shadowOf, stateOf, recordSize}
 use Rattle.rules.specs.Refusal.{test, refusal}
 use Rattle.trainer.specs.Call.{posed}
-use Rattle.trainer.specs.Run.{sizesOf}
-use Rattle.trainer.specs.PartsCode.{Posed, Startable, Printable}
+use Rattle.trainer.specs.Run.{sizesOf, Startable}
+use Rattle.trainer.specs.PartsCode.{Posed, Printable}
 use Rattle.puzzle.proofs.Theorems as reads
 use Rattle.shadow.specs.Refusals as machine
 

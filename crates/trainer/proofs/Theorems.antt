@@ -19,8 +19,7 @@ use Rattle.render.specs.Render.{renderQuestion}
 use Rattle.trainer.specs.declared.Written.{Written}
 use Rattle.trainer.specs.Call.{posed, puzzleIn, Lines, Prints, Call, toldOf, bytesOf}
 use Rattle.trainer.specs.Answers.{AnswersOf, AnswersCall}
-use Rattle.trainer.specs.Run.{sizesOf, RunOf, RunCall}
-use Rattle.trainer.specs.PartsCode.{Startable}
+use Rattle.trainer.specs.Run.{sizesOf, RunOf, RunCall, Startable}
 use Rattle.trainer.proofs.Turns.{joined-same, one-right}
 use Rattle.trainer.proofs.Puzzles.{ready}
 use Rattle.trainer.proofs.Wholes.{in-text}

@@ -1,6 +1,6 @@
 -- What the functions below `answers` and `run` ask for and leave.
 use mathlib.Core.Path.{_≡_}
-use mathlib.Core.List.{List, []}
+use mathlib.Core.List.{List}
 use Prim.Native.Nat.{ℕ, _+_, _*_, _/_, _^_, _≤_, _<_}
 use lib.ListN.{length, take, getD}
 use Rattle.paging.specs.Layout.{frameWords}
@@ -11,7 +11,7 @@ use Rattle.puzzle.specs.Buffers.{Buffers, buffers}
 use Rattle.rules.specs.Numbers.{eventsOf, questionOf}
 use Rattle.render.specs.Render.{renderQuestion}
 use Rattle.render.specs.WrittenCode.{outOf, written}
-use Rattle.tables.specs.State.{Machine, machine64, shadowOf, State, stateOf}
+use Rattle.tables.specs.State.{Machine, machine64, State}
 use Rattle.shadow.specs.Refusals.{setupRefusal}
 use Rattle.shadow.specs.Setup.{started}
 use Rattle.slots.specs.Slots.{slotsSize}
@@ -20,7 +20,7 @@ use Rattle.trainer.specs.declared.Program.{Program}
 use Rattle.trainer.specs.declared.Program.the-variants.{Answers, Run}
 use Rattle.trainer.specs.Call.{joined, Lines, outputSize}
 use Rattle.trainer.specs.Answers.{RightOf, AnswersOf}
-use Rattle.trainer.specs.Run.{sizesOf, eventLine, RunOf}
+use Rattle.trainer.specs.Run.{sizesOf, eventLine, RunOf, Startable}
 
 abbrev pub LinesOf : Program → Lines
 LinesOf Answers = AnswersOf
@@ -45,12 +45,6 @@ module _ (map cr3s words events : List ℕ) (q : Question) where
     pub right : RightOf map cr3s words events q list
     pub wrote : outOf r after ≡ written (renderQuestion map q list) (outOf at before)
     pub few : r ≤ at + 922
-
--- setup takes this map and these CR3s, whatever the buffers hold that it fills
-pub record Startable (map cr3s : List ℕ) : Type 0 where
-  pub few : length cr3s ≤ mostProcessors
-  pub taken : (pool records slots : List ℕ) → length pool ≡ 2048 * length cr3s → length records ≡ 8 * length cr3s → length slots ≡ slotsSize * length cr3s
-      → setupRefusal (machine64 (sizesOf map cr3s)) map cr3s (stateOf [] (shadowOf pool records) slots) ≡ 0
 
 -- the lines of a run from a state were written
 pub record EventsPut (M : Machine) (map : List ℕ) (start : State) (events before : List ℕ) (r : ℕ) (after : List ℕ) : Type 0 where

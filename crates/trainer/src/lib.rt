@@ -13,8 +13,8 @@ ghost use Rattle.tables.specs.State.{machine64, shadowOf, stateOf};
 ghost use Rattle.render.specs.WrittenCode.{outOf, written};
 ghost use Rattle.trainer.specs.Call.{Call, bytesOf, outputSize};
 ghost use Rattle.trainer.specs.Answers.{AnswersOf};
-ghost use Rattle.trainer.specs.Run.{answerLine};
-ghost use Rattle.trainer.specs.PartsCode.{LinesOf, Posed, Found, Answered, Startable, EventsPut, RunPut, Printable, AllPut, Counts, cut};
+ghost use Rattle.trainer.specs.Run.{answerLine, Startable};
+ghost use Rattle.trainer.specs.PartsCode.{LinesOf, Posed, Found, Answered, EventsPut, RunPut, Printable, AllPut, Counts, cut};
 ghost use Rattle.slots.specs.Slots.{slotsSize};
 ghost use Rattle.sections.specs.Sizes.{wordsSize, eventsSize};
 

@@ -13,11 +13,12 @@ use Rattle.paging.proofs.Layouts.{tables64-sound, length-put, get-put, get-put-
 use Rattle.paging.proofs.Narrow.{tables32, tables32-sound}
 use Rattle.paging.proofs.Tests.{both}
 use Rattle.tables.specs.declared.Sizes.{Sizes}
-use Rattle.tables.specs.State.{Machine, Shadow, onPool, onRecords, machine64, recordSize, withRecord, tableCount, entryCount, withEntry, named, Sized}
+use Rattle.tables.specs.State.{Machine, Shadow, onPool, onRecords, machine64, recordSize, withRecord, tableCount, entryCount, withEntry, named}
 use Rattle.tables.proofs.Names.{named-absent, named-on}
 use Rattle.lawful.specs.Rules.{isMadeWith, isBranch}
 use Rattle.trees.proofs.Trees.{Able, able, Exact, ent, lev, shd, Names}
 use Rattle.paging.specs.Sound.{Laid}
+use Rattle.tables.specs.SizesCode.{Sized}
 
 -- ---- the 64-bit machine is able
 

@@ -40,7 +40,8 @@ use denote.Triple.Table.{entered, cited}
 use denote.Triple.Walked.{says, needs, Stays, stay-none, stay-none-slice, walkOf, goes-none, goes-none-slice, Walks, ends-at, walked, walk-meets}
 use denote.Exit.{yes}
 use lib.ListN.{length}
-use Rattle.cursor.specs.Text.{Stands, nextAt, Stepped}
+use Rattle.cursor.specs.Text.{nextAt}
+use Rattle.cursor.specs.CursorCode.{Stands, Stepped}
 use Rattle.cursor.specs.declared.Cursor.{Cursor}
 use Rattle.cursor.specs.declared.Next.{Next}
 use Rattle.cursor.proofs.Cursor as T

@@ -6,7 +6,8 @@ use Prim.Native.Nat.{_+_, _-_, _*_, _^_, _≤_, _<_}
 use native.Mathlib.Omega.{arith}
 use lib.ListN.{length, drop, getD}
 use Rattle.cursor.specs.declared.Digits.the-variants.{Value}
-use Rattle.cursor.specs.Text.{run, valueFrom, valueOf, digitsAt}
+use Rattle.cursor.specs.Text.{run, valueFrom, valueOf}
+use Rattle.cursor.specs.CursorCode.{digitsAt}
 use Rattle.cursor.proofs.DigitRuns.{digit-yes, digit-low, digit-high, value-more, length-more, run-stop, run-end, grows, digits-are, digits-big}
 use Rattle.cursor.proofs.read_digits.Statement.{statement}
 use Rattle.cursor.proofs.read_digits.Tie as tie

@@ -7,13 +7,14 @@ use lib.ListN.{length}
 use Rattle.paging.specs.Frame.{guest}
 use Rattle.paging.specs.Layout.{tables64, frameOf}
 use Rattle.paging.proofs.Indices.{index-small}
-use Rattle.tables.specs.State.{machine64, shadowOf, SpotFits}
+use Rattle.tables.specs.State.{machine64, shadowOf}
 use Rattle.tables.specs.Steps.{Settled, settledAt, taken, freeCount, hangNext, build}
 use Rattle.tables.proofs.Names.{few, frame-small}
 use Rattle.tables.proofs.Takes.{taken-may, hang-count}
 use Rattle.tables.proofs.Fills.{build-end, build-on}
 use Rattle.tables.proofs.build_path.Statement.{statement}
 use Rattle.guest.specs.GuestWalk.{guestEntry}
+use Rattle.tables.specs.SizesCode.{SpotFits}
 use Rattle.tables.proofs.build_path.Tie as tie
 
 abbrev Inv-loop : tie.InvT-loop

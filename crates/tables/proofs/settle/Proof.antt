@@ -6,12 +6,13 @@ use lib.ListN.{length}
 use borrow.Author.Tests.{not-true, not-false}
 use Rattle.paging.specs.Layout.{tables64, get}
 use Rattle.paging.proofs.Indices.{index-small}
-use Rattle.tables.specs.State.{machine64, shadowOf, SpotFits}
+use Rattle.tables.specs.State.{machine64, shadowOf}
 use Rattle.tables.specs.Steps.{settle}
 use mathlib.Mathlib.Logic.Function.Defs.{id as at}
 use Rattle.tables.proofs.Names.{few, frame-small}
 use Rattle.tables.proofs.Fills.{agrees-named, settle-end, settle-on, settle-cut}
 use Rattle.tables.proofs.settle.Statement.{statement}
+use Rattle.tables.specs.SizesCode.{SpotFits}
 use Rattle.tables.proofs.settle.Tie as tie
 
 abbrev Inv-loop : tie.InvT-loop

@@ -4,7 +4,8 @@ use Prim.Native.Nat.{_<_, _≤_}
 use native.Mathlib.Omega.{arith}
 use Rattle.paging.specs.declared.Guest.{Guest}
 use mathlib.Mathlib.Logic.Function.Defs.{id as at}
-use Rattle.tables.specs.State.{Shadow, shadowOf, stateOf, machine64, tableCount, shadows, Room, SpotFits}
+use Rattle.tables.specs.State.{Shadow, shadowOf, stateOf, machine64, tableCount, shadows}
+use Rattle.tables.specs.SizesCode.{Room, SpotFits}
 use Rattle.tables.specs.Steps.{Settled, spot, freeCount}
 use Rattle.tables.proofs.Names.{few, root-small}
 use Rattle.shadow.proofs.Shares.{enough-free}

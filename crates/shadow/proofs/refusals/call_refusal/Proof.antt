@@ -3,9 +3,10 @@ use mathlib.Core.Path.{sym, _∙_}
 use mathlib.Core.List.{[]}
 use native.Mathlib.Omega.{arith}
 use borrow.Author.Tests.{not-true, not-false}
-use Rattle.tables.specs.State.{State, shadowOf, stateOf, machine64, Sized}
+use Rattle.tables.specs.State.{State, shadowOf, stateOf, machine64}
 use Rattle.shadow.proofs.Accepted.{call-early, call-sized, call-triples, call-unlawful, call-event, call-few, call-accepted}
 use Rattle.shadow.proofs.refusals.call_refusal.Statement.{statement}
+use Rattle.tables.specs.SizesCode.{Sized}
 use Rattle.shadow.proofs.refusals.call_refusal.Tie as tie
 
 abbrev entry : tie.Start → State
