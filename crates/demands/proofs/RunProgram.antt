@@ -26,7 +26,6 @@ use Rattle.demands.proofs.Given.{given}
 use Rattle.demands.specs.RunProgram.{machineFor, runFor, printedFor}
 use Rattle.promise.proofs.Lossless.{none-lost}
 use Rattle.shadow.specs.Setup.{started}
-use Rattle.tables.specs.SizesCode.{Sized}
 use Rattle.promise.specs.Demand as D
 
 module _ (z : Puzzle) where

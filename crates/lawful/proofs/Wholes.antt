@@ -8,19 +8,18 @@ use native.Mathlib.Omega.{arith}
 use borrow.Author.Tests.{eq-eqb, ne-eqb, lt-ltb, le-ltb}
 use Rattle.paging.specs.Layout.{tables64}
 use Rattle.paging.specs.Numbers.{all}
-use Rattle.paging.proofs.Numbers.{all-none, all-more, all-fails}
+use Rattle.paging.proofs.Loops.{Passed, passed-none, passed-more, passed-stop, passed-all}
 use Rattle.tables.specs.declared.Sizes.{Sizes}
 use Rattle.tables.specs.State.{machine64, tableCount, entryOf, named}
 use Rattle.lawful.specs.Rules.{isLeaf, tableWhole, entryWhole}
 
 pub record Checked (z : Sizes) (map pool : List ℕ) (t level i : ℕ) : Type 0 where
   pub some : 0 < level
-  pub within : i ≤ 512
-  pub so-far : all i (λ k. entryWhole (machine64 z) map pool level (entryOf (machine64 z) pool t k)) ≡ true
+  pub passed : Passed (λ k. entryWhole (machine64 z) map pool level (entryOf (machine64 z) pool t k)) 512 i
 
 module _ (z : Sizes) (map pool : List ℕ) where
   pub checked-none : (t level : ℕ) → 0 < level → Checked z map pool t level 0
-  checked-none t level h = record { some = h; within = omega arith; so-far = all-none _ }
+  checked-none t level h = record { some = h; passed = passed-none }
 
   table-is : (t level : ℕ) → 0 < level → tableWhole (machine64 z) map pool level t ≡ all 512 (λ k. entryWhole (machine64 z) map pool level (entryOf (machine64 z) pool t k))
   unfolding tableWhole entryWhole
@@ -54,22 +53,14 @@ module _ (z : Sizes) (map pool : List ℕ) where
 
 module _ {z : Sizes} {map pool : List ℕ} {t level i : ℕ} (inv : Checked z map pool t level i) where
   pub table-whole : 512 ≤ i → true ≡ tableWhole (machine64 z) map pool level t
-  table-whole h =
-      let q : 512 ≡ i = omega (arith, inv .within) in
-      sym (table-is z map pool t level (inv .some) ∙ ap (λ (n : ℕ). all n (λ k. entryWhole (machine64 z) map pool level (entryOf (machine64 z) pool t k))) q ∙ inv .so-far)
+  table-whole h = passed-all (inv .passed) h ∙ sym (table-is z map pool t level (inv .some))
 
   module _ (turn : i < 512) {e : ℕ} {b : Bool} (ee : e ≡ entryOf (machine64 z) pool t i) (eb : b ≡ entryWhole (machine64 z) map pool level e) where
     tested : entryWhole (machine64 z) map pool level (entryOf (machine64 z) pool t i) ≡ b
     tested = sym (eb ∙ ap (entryWhole (machine64 z) map pool level) ee)
 
     pub checked-more : b ≡ true → Checked z map pool t level (i + 1)
-    checked-more q = record {
-      some = inv .some;
-      within = omega arith;
-      so-far = all-more (λ k. entryWhole (machine64 z) map pool level (entryOf (machine64 z) pool t k)) i (inv .so-far) (tested ∙ q);
-    }
+    checked-more q = record { some = inv .some; passed = passed-more (inv .passed) turn (tested ∙ q) }
 
     pub table-broken : b ≡ false → false ≡ tableWhole (machine64 z) map pool level t
-    table-broken q =
-        sym (table-is z map pool t level (inv .some)
-        ∙ all-fails (λ k. entryWhole (machine64 z) map pool level (entryOf (machine64 z) pool t k)) 512 i turn (tested ∙ q))
+    table-broken q = passed-stop (inv .passed) turn (tested ∙ q) ∙ sym (table-is z map pool t level (inv .some))

@@ -10,7 +10,6 @@ ghost use Rattle.sections.specs.Sections.{puzzleOf};
 ghost use Rattle.sections.specs.PartsCode.{capacity};
 ghost use Rattle.puzzle.specs.Buffers.{buffers, after, withPairs, laid, verdictOf, answer, readCall};
 ghost use Rattle.puzzle.specs.PartsCode.{countOf, Ready, NextIs, EndIs, lists, LongEnough, SectionsAre, WordsBelow, Lengths, accepts};
-ghost use Rattle.cursor.specs.CursorCode.{Stands};
 
 // The count of each section, or a refusal number and its line.
 pub enum ReadResult {

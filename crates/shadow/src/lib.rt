@@ -14,7 +14,7 @@ ghost use Rattle.shadow.specs.Moves.{decode};
 ghost use Rattle.shadow.specs.After.{moved, after};
 ghost use Rattle.shadow.specs.Setup.{rooted, afterSetup};
 ghost use Rattle.shadow.specs.ReadyCode.{Ready, Fitting};
-ghost use Rattle.tables.specs.SizesCode.{Sized, Room};
+ghost use Rattle.tables.specs.SizesCode.{Room};
 use paging::Guest;
 use rules::Event;
 use tables::Sizes;

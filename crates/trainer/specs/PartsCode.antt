@@ -12,10 +12,8 @@ use Rattle.rules.specs.Numbers.{eventsOf, questionOf}
 use Rattle.render.specs.Render.{renderQuestion}
 use Rattle.render.specs.WrittenCode.{outOf, written}
 use Rattle.tables.specs.State.{Machine, machine64, State}
-use Rattle.shadow.specs.Refusals.{setupRefusal}
 use Rattle.shadow.specs.Setup.{started}
-use Rattle.slots.specs.Slots.{slotsSize}
-use Rattle.sections.specs.Sizes.{mostProcessors, wordsSize, eventsSize, questionsSize}
+use Rattle.sections.specs.Sizes.{wordsSize, eventsSize, questionsSize}
 use Rattle.trainer.specs.declared.Program.{Program}
 use Rattle.trainer.specs.declared.Program.the-variants.{Answers, Run}
 use Rattle.trainer.specs.Call.{joined, Lines, outputSize}

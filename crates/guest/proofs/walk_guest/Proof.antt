@@ -13,10 +13,10 @@ use Rattle.paging.specs.Walk.{start, step}
 use Rattle.paging.proofs.Indices.{index-small}
 use Rattle.paging.proofs.Rights.{meet-small}
 use Rattle.paging.proofs.Steps.{Goes, goes}
-use mathlib.Mathlib.Logic.Function.Defs.{id as at}
 use Rattle.guest.specs.GuestWalk.{byStep, walkFrom, walkGuest}
 use Rattle.guest.proofs.Walks.{walk-step, walk-end}
 use Rattle.guest.proofs.walk_guest.Statement.{statement}
+use Rattle.paging.proofs.Places.{at}
 use Rattle.guest.proofs.walk_guest.Tie as tie
 
 abbrev Inv-loop : tie.InvT-loop
@@ -49,7 +49,7 @@ loop-holds c =
 -- the word that is read is the entry that the walk has come to
 at-entry : (c : tie.After-step Inv-loop μ-loop) → let l = turn c .loop in
     c .before .entry-at .result ≡ get tables64 (l .words) (l .w .frame .0) (index tables64 (begun c .args .page) (l .w .level))
-at-entry c = c .before .entry-at .ensures ∙ ap (get tables64 (turn c .loop .words) (turn c .loop .w .frame .0)) (at {A = tie.After-index-of Inv-loop μ-loop} (search) .index-of .ensures)
+at-entry c = c .before .entry-at .ensures ∙ ap (get tables64 (turn c .loop .words) (turn c .loop .w .frame .0)) (at (tie.After-index-of Inv-loop μ-loop) (search) .index-of .ensures)
 
 -- where the walk goes on to
 gone : (c : tie.After-step Inv-loop μ-loop) (w′ : Walk) → c .step .result ≡ On w′
@@ -58,19 +58,19 @@ gone c w′ q = goes tables64 (begun c .args .frames) (turn c .loop .w) (c .befo
 
 loop-less : tie.Need-loop-less Inv-loop μ-loop
 loop-less c =
-    let next = at {A = tie.After-next Inv-loop μ-loop} (search) .next in
-    let g = gone (at {A = tie.After-step Inv-loop μ-loop} (search)) (next .given .0 .0) (next .given .1) in
+    let next = at (tie.After-next Inv-loop μ-loop) (search) .next in
+    let g = gone (at (tie.After-step Inv-loop μ-loop) (search)) (next .given .0 .0) (next .given .1) in
     omega (arith, ap (λ (w : Walk). w .level) (g .is), g .partial)
 
 loop-again : tie.Need-loop-again Inv-loop μ-loop
 loop-again c =
-    let written = at {A = tie.After-write-entry Inv-loop μ-loop} (search) .write-entry in
-    let accessed = at {A = tie.After-set-accessed Inv-loop μ-loop} (search) .set-accessed .ensures in
-    let q = at {A = tie.After-next Inv-loop μ-loop} (search) .next .given .1 in
+    let written = at (tie.After-write-entry Inv-loop μ-loop) (search) .write-entry in
+    let accessed = at (tie.After-set-accessed Inv-loop μ-loop) (search) .set-accessed .ensures in
+    let q = at (tie.After-next Inv-loop μ-loop) (search) .next .given .1 in
     let step : tie.After-step Inv-loop μ-loop = search in
     let a = begun step .args in
     let l = turn step .loop in
-    let w′ = at {A = tie.After-next Inv-loop μ-loop} (search) .next .given .0 .0 in
+    let w′ = at (tie.After-next Inv-loop μ-loop) (search) .next .given .0 .0 in
     let g = gone step w′ q in
     let level = ap (λ (w : Walk). w .level) (g .is) in (
       omega (arith, level, l .inv .0),
@@ -78,7 +78,7 @@ loop-again c =
       omega (arith, ap (λ (w : Walk). w .frame .0) (g .is), g .inside, begun step .pre .0),
       written .kept .0 ∙ l .inv .3,
       ap (λ (x : List ℕ). walkFrom tables64 (a .frames) (a .page) (w′ .level) x (l .w .frame) w′)
-          (written .ensures ∙ ap₂ (put tables64 (l .words) (l .w .frame .0)) (at {A = tie.After-index-of Inv-loop μ-loop} (search) .index-of .ensures) accessed)
+          (written .ensures ∙ ap₂ (put tables64 (l .words) (l .w .frame .0)) (at (tie.After-index-of Inv-loop μ-loop) (search) .index-of .ensures) accessed)
           ∙ walk-step tables64 (a .frames) (a .page) (l .words) (l .last) (l .w) (l .w .level) (w′ .level) (omega (arith, level, g .partial)) (at-entry step) (sym (step .step .ensures) ∙ q)
           ∙ l .inv .4,
     )
@@ -95,8 +95,8 @@ ended c r q =
 
 returns-4 : tie.Need-returns-4 Inv-loop μ-loop
 returns-4 c =
-    let a = at {A = tie.Start Inv-loop μ-loop} (search) .args in
-    let l = at {A = tie.At-loop Inv-loop μ-loop} (search) .loop in
+    let a = at (tie.Start Inv-loop μ-loop) (search) .args in
+    let l = at (tie.At-loop Inv-loop μ-loop) (search) .loop in
     walk-end tables64 (a .frames) (a .page) (l .words) (l .last) (l .w) (l .w .level) (omega arith) ∙ l .inv .4
 
 pub walk-guest-spec : {M : Type 1} → statement M
@@ -107,22 +107,22 @@ walk-guest-spec =
     μ-loop
     (λ c κs. tt)
     loop-holds
-    (λ c κs. omega (arith, at {A = tie.At-loop Inv-loop μ-loop} (search) .loop .inv .0))
-    (λ c κs. let l = at {A = tie.At-loop Inv-loop μ-loop} (search) .loop in (l .inv .2, omega (arith, c .before .index-of .ensures, index-small tables64 (at {A = tie.Start Inv-loop μ-loop} (search) .args .page) (l .w .level))))
-    (λ c κs. at {A = tie.At-loop Inv-loop μ-loop} (search) .loop .inv .1)
+    (λ c κs. omega (arith, at (tie.At-loop Inv-loop μ-loop) (search) .loop .inv .0))
+    (λ c κs. let l = at (tie.At-loop Inv-loop μ-loop) (search) .loop in (l .inv .2, omega (arith, c .before .index-of .ensures, index-small tables64 (at (tie.Start Inv-loop μ-loop) (search) .args .page) (l .w .level))))
+    (λ c κs. at (tie.At-loop Inv-loop μ-loop) (search) .loop .inv .1)
     (λ c. search needs)
     (λ c κs. tt)
-    (λ c κs. let l = at {A = tie.At-loop Inv-loop μ-loop} (search) .loop in (l .inv .2, omega (arith, at {A = tie.After-index-of Inv-loop μ-loop} (search) .index-of .ensures, index-small tables64 (at {A = tie.Start Inv-loop μ-loop} (search) .args .page) (l .w .level))))
+    (λ c κs. let l = at (tie.At-loop Inv-loop μ-loop) (search) .loop in (l .inv .2, omega (arith, at (tie.After-index-of Inv-loop μ-loop) (search) .index-of .ensures, index-small tables64 (at (tie.Start Inv-loop μ-loop) (search) .args .page) (l .w .level))))
     loop-less
     loop-again
     (λ c. search needs)
-    (λ c. at {A = tie.At-loop Inv-loop μ-loop} (search) .loop .inv .3)
-    (λ c. ended (at {A = tie.After-step Inv-loop μ-loop} (search)) Absent (c .enum-told .given .1))
+    (λ c. at (tie.At-loop Inv-loop μ-loop) (search) .loop .inv .3)
+    (λ c. ended (at (tie.After-step Inv-loop μ-loop) (search)) Absent (c .enum-told .given .1))
     (λ c. search needs)
-    (λ c. at {A = tie.At-loop Inv-loop μ-loop} (search) .loop .inv .3)
-    (λ c. ended (at {A = tie.After-step Inv-loop μ-loop} (search)) Beyond (c .enum-told2 .given .1))
+    (λ c. at (tie.At-loop Inv-loop μ-loop) (search) .loop .inv .3)
+    (λ c. ended (at (tie.After-step Inv-loop μ-loop) (search)) Beyond (c .enum-told2 .given .1))
     (λ c. search needs)
-    (λ c. at {A = tie.At-loop Inv-loop μ-loop} (search) .loop .inv .3)
-    (λ c. ended (at {A = tie.After-step Inv-loop μ-loop} (search)) Complete (c .enum-told3 .given .1))
-    (λ c. at {A = tie.At-loop Inv-loop μ-loop} (search) .loop .inv .3)
+    (λ c. at (tie.At-loop Inv-loop μ-loop) (search) .loop .inv .3)
+    (λ c. ended (at (tie.After-step Inv-loop μ-loop) (search)) Complete (c .enum-told3 .given .1))
+    (λ c. at (tie.At-loop Inv-loop μ-loop) (search) .loop .inv .3)
     returns-4)

@@ -1,11 +1,10 @@
 -- The tables below t are right.
 use mathlib.Core.Path.{_≡_, sym, ap, _∙_}
-use mathlib.Core.Bool.{true}
-use Prim.Native.Nat.{ℕ, _-_, _≤_, _<_}
+use Prim.Native.Nat.{ℕ, _-_, _<_}
 use native.Mathlib.Omega.{arith}
 use borrow.Author.Tests.{not-true, not-false}
-use Rattle.paging.specs.Numbers.{all}
-use Rattle.paging.proofs.Numbers.{all-none, all-more, all-fails}
+use Rattle.paging.proofs.Places.{at}
+use Rattle.paging.proofs.Loops.{Passed, passed-none, passed-more, passed-stop, passed-all}
 use Rattle.tables.specs.State.{shadowOf, machine64, tableCount}
 use Rattle.tables.proofs.Names.{few}
 use Rattle.lawful.specs.Rules.{recordRight, tableRight, namesOf}
@@ -13,49 +12,58 @@ use Rattle.lawful.proofs.records_right.Statement.{statement}
 use Rattle.lawful.proofs.records_right.Tie as tie
 
 abbrev Inv-loop : tie.InvT-loop
-Inv-loop map hints pool records counts z n t₀ t = (t ≤ n) × (all t (tableRight (machine64 z) map (shadowOf pool records)) ≡ true)
+Inv-loop map hints pool records counts z n t₀ t = Passed (tableRight (machine64 z) map (shadowOf pool records)) (tableCount (machine64 z)) t
 
 abbrev μ-loop : tie.MeasureT-loop
 μ-loop map hints pool records counts z n t₀ t = n - t
 
-within : (c : tie.In-loop Inv-loop μ-loop) → c .before .loop .t < tableCount (machine64 (c .before .before .before .before .before .before .before .before .args .z))
-within c = omega (arith, c .before .before .table-count .ensures, c .loop-test .taken)
+-- the way back, each path once
+abbrev turn : tie.In-loop Inv-loop μ-loop → tie.At-loop Inv-loop μ-loop
+turn c = c .before
+
+abbrev begun : tie.In-loop Inv-loop μ-loop → tie.Start Inv-loop μ-loop
+begun c = turn c .before .before .before .before .before .before .before
+
+abbrev inside : tie.After-record-right Inv-loop μ-loop → tie.In-loop Inv-loop μ-loop
+inside c = c .before .before
+
+within : (c : tie.In-loop Inv-loop μ-loop) → turn c .loop .t < tableCount (machine64 (begun c .args .z))
+within c = omega (arith, turn c .before .table-count .ensures, c .loop-test .taken)
+
+few-tables : (c : tie.In-loop Inv-loop μ-loop) → turn c .loop .t < 64
+few-tables c = omega (arith, few (begun c .pre .0 .0), within c)
 
 -- what the counts say is how many entries name the table
-record-is : (c : tie.After-record-right Inv-loop μ-loop)
-    → c .record-right .result ≡ recordRight (machine64 (c .before .before .before .before .before .before .before .before .before .before .args .z)) (c .before .before .before .before .before .before .before .before .before .before .args .records .now) (namesOf (machine64 (c .before .before .before .before .before .before .before .before .before .before .args .z)) (c .before .before .before .before .before .before .before .before .before .before .args .pool .now) (c .before .before .before .loop .t)) (c .before .before .before .loop .t)
+record-is : (c : tie.After-record-right Inv-loop μ-loop) → let a = begun (inside c) .args in let t = turn (inside c) .loop .t in
+    c .record-right .result ≡ recordRight (machine64 (a .z)) (a .records .now) (namesOf (machine64 (a .z)) (a .pool .now) t) t
 unfolding namesOf
 record-is c =
-    let a = c .before .before .before .before .before .before .before .before .before .before .args in
-    c .record-right .ensures ∙ ap (λ (n : ℕ). recordRight (machine64 (a .z)) (a .records .now) n (c .before .before .before .loop .t)) (c .before .before .before .before .before .before .before .before .before .before .pre .1 .told (c .before .before .before .loop .t) (within (c .before .before)))
+    let a = begun (inside c) .args in
+    let t = turn (inside c) .loop .t in
+    c .record-right .ensures ∙ ap (λ (n : ℕ). recordRight (machine64 (a .z)) (a .records .now) n t) (begun (inside c) .pre .1 .told t (within (inside c)))
 
 returns : tie.Need-returns Inv-loop μ-loop
 unfolding tableRight
 returns c =
-    let a = c .before .before .before .before .before .before .before .before .before .before .before .args in
-    sym (all-fails (tableRight (machine64 (a .z)) (a .map .now) (shadowOf (a .pool .now) (a .records .now))) (tableCount (machine64 (a .z))) (c .before .before .before .before .loop .t) (within (c .before .before .before))
-    (simp (sym (record-is (c .before)) ∙ not-true _ (c .if1 .taken))))
+    let l = inside (c .before) in
+    passed-stop (turn l .loop .inv) (within l) (simp (sym (record-is (c .before)) ∙ not-true _ (c .if1 .taken)))
 
+-- the record is right; now its entries
 returns-2 : tie.Need-returns-2 Inv-loop μ-loop
 unfolding tableRight
 returns-2 c =
-    let a = c .before .before .before .before .before .before .before .before .before .before .before .before .before .args in
-    sym (all-fails (tableRight (machine64 (a .z)) (a .map .now) (shadowOf (a .pool .now) (a .records .now))) (tableCount (machine64 (a .z))) (c .before .before .before .before .before .before .loop .t) (within (c .before .before .before .before .before))
-    (simp (sym (record-is (c .before .before .before)) ∙ not-false _ (c .before .before .if1 .left)) (sym (c .before .entries-right .ensures) ∙ not-true _ (c .if2 .taken))))
+    let r : tie.After-record-right Inv-loop μ-loop = search in
+    let l = inside r in
+    let entries = sym (c .before .entries-right .ensures) ∙ not-true _ (c .if2 .taken) in
+    passed-stop (turn l .loop .inv) (within l) (simp (sym (record-is r) ∙ not-false _ (at (tie.Else1 Inv-loop μ-loop) (search) .if1 .left)) entries)
 
 loop-again : tie.Need-loop-again Inv-loop μ-loop
 unfolding tableRight
 loop-again c =
-    let a = c .before .before .before .before .before .before .before .before .before .before .before .before .before .args in (
-      omega (arith, c .before .before .before .before .before .loop-test .taken),
-      all-more (tableRight (machine64 (a .z)) (a .map .now) (shadowOf (a .pool .now) (a .records .now))) (c .before .before .before .before .before .before .loop .t) (c .before .before .before .before .before .before .loop .inv .1)
-          (simp (sym (record-is (c .before .before .before)) ∙ not-false _ (c .before .before .if1 .left)) (sym (c .before .entries-right .ensures) ∙ not-false _ (c .if2 .left))),
-    )
-
-returns-3 : tie.Need-returns-3 Inv-loop μ-loop
-returns-3 c =
-    let a = c .before .before .before .before .before .before .before .before .args in
-    sym (ap (λ (n : ℕ). all n (tableRight (machine64 (a .z)) (a .map .now) (shadowOf (a .pool .now) (a .records .now)))) (omega (arith, c .before .before .table-count .ensures)) ∙ c .before .loop .inv .1)
+    let r : tie.After-record-right Inv-loop μ-loop = search in
+    let l = inside r in
+    let entries = sym (c .before .entries-right .ensures) ∙ not-false _ (c .if2 .left) in
+    passed-more (turn l .loop .inv) (within l) (simp (sym (record-is r) ∙ not-false _ (at (tie.Else1 Inv-loop μ-loop) (search) .if1 .left)) entries)
 
 pub records-right-spec : {M : Type 1} → statement M
 records-right-spec =
@@ -63,15 +71,15 @@ records-right-spec =
     (tie.spec
     Inv-loop
     μ-loop
-    (λ c κs. c .before .before .before .before .before .pre .0 .0)
-    (λ c. (omega arith, all-none _))
-    (λ c. omega (arith, few (c .before .before .before .before .before .before .before .before .pre .0 .0), within (c)))
-    (λ c. omega (arith, few (c .before .before .before .before .before .before .before .before .before .pre .0 .0), within (c .before), c .before .before .before .before .before .before .before .before .before .pre .1 .room))
-    (λ c κs. (c .before .before .before .before .before .before .before .before .before .pre .0 .0, omega (arith, few (c .before .before .before .before .before .before .before .before .before .pre .0 .0), within (c .before))))
+    (λ c κs. at (tie.Start Inv-loop μ-loop) (search) .pre .0 .0)
+    (λ c. passed-none)
+    (λ c. omega (arith, few-tables c))
+    (λ c. let l : tie.In-loop Inv-loop μ-loop = search in omega (arith, few (begun l .pre .0 .0), within l, begun l .pre .1 .room))
+    (λ c κs. let l : tie.In-loop Inv-loop μ-loop = search in (begun l .pre .0 .0, omega (arith, few-tables l)))
     returns
-    (λ c κs. (c .before .before .before .before .before .before .before .before .before .before .before .pre .0 .0, omega (arith, few (c .before .before .before .before .before .before .before .before .before .before .before .pre .0 .0), within (c .before .before .before)), c .before .before .before .before .before .before .before .before .before .before .before .pre .0 .1))
+    (λ c κs. let l : tie.In-loop Inv-loop μ-loop = search in (begun l .pre .0 .0, omega (arith, few-tables l), begun l .pre .0 .1))
     returns-2
-    (λ c. omega (arith, few (c .before .before .before .before .before .before .before .before .before .before .before .before .before .pre .0 .0), within (c .before .before .before .before .before)))
+    (λ c. omega (arith, few-tables (at (tie.In-loop Inv-loop μ-loop) (search))))
     (λ c. omega arith)
     loop-again
-    returns-3)
+    (λ c. passed-all (c .before .loop .inv) (omega (arith, c .before .before .table-count .ensures))))

@@ -4,7 +4,7 @@ use Prim.Native.Nat.{_*_, _≤_}
 use native.Mathlib.Omega.{arith}
 use lib.ListN.{length, take, replicate}
 use borrow.Author.Needs.{needs}
-use mathlib.Mathlib.Logic.Function.Defs.{id as at}
+use Rattle.paging.proofs.Places.{at}
 use Rattle.puzzle.specs.Buffers.{withPairs}
 use Rattle.puzzle.specs.PartsCode.{lists, Whole}
 use Rattle.puzzle.proofs.Calls.{not-refused, pairs-below, accepted-answer}
@@ -44,8 +44,8 @@ store-pairs-requires c κs =
 
 returns-2 : tie.Need-returns-2
 returns-2 c =
-    let stored = at {A = tie.After-store-pairs} (search) .store-pairs .ensures in
-    let cleared = at {A = tie.After-clear} (search) .clear .ensures in
+    let stored = at tie.After-store-pairs (search) .store-pairs .ensures in
+    let cleared = at tie.After-clear (search) .clear .ensures in
     let counts : tie.After-counts2 = search in
     accepted-answer (whole counts) (start (sections counts) .args .words .now)
     (stored ∙ ap (withPairs (take (counts .counts2 .given .0 .1 .1 .0 * 2) (sections counts .read-sections .last .1 .1 .1 .0))) cleared)
@@ -58,18 +58,18 @@ fill-spec =
     (λ c κs. search needs)
     (λ c. search needs)
     (λ c. search needs)
-    (λ c. omega (arith, few-frames (at {A = tie.After-counts2} (search))))
+    (λ c. omega (arith, few-frames (at tie.After-counts2 (search))))
     clear-requires
     (λ c. search needs)
     store-pairs-requires
-    (λ c. at {A = tie.After-read-sections} (search) .read-sections .kept .1 .0)
-    (λ c. at {A = tie.After-read-sections} (search) .read-sections .kept .1 .1 .0)
-    (λ c. at {A = tie.After-read-sections} (search) .read-sections .kept .1 .1 .1 .1 .0)
-    (λ c. at {A = tie.After-read-sections} (search) .read-sections .kept .1 .1 .1 .1 .1 .0)
+    (λ c. at tie.After-read-sections (search) .read-sections .kept .1 .0)
+    (λ c. at tie.After-read-sections (search) .read-sections .kept .1 .1 .0)
+    (λ c. at tie.After-read-sections (search) .read-sections .kept .1 .1 .1 .1 .0)
+    (λ c. at tie.After-read-sections (search) .read-sections .kept .1 .1 .1 .1 .1 .0)
     (λ c. let r : tie.After-read-sections = search in absurd (not-refused (start r .pre .1) (r .read-sections .ensures .fault (c .before .counts .given .1))))
-    (λ c. at {A = tie.After-read-sections} (search) .read-sections .kept .1 .0)
-    (λ c. at {A = tie.After-read-sections} (search) .read-sections .kept .1 .1 .0)
-    (λ c. at {A = tie.After-store-pairs} (search) .store-pairs .kept .0 ∙ at {A = tie.After-clear} (search) .clear .kept .0)
-    (λ c. at {A = tie.After-read-sections} (search) .read-sections .kept .1 .1 .1 .1 .0)
-    (λ c. at {A = tie.After-read-sections} (search) .read-sections .kept .1 .1 .1 .1 .1 .0)
+    (λ c. at tie.After-read-sections (search) .read-sections .kept .1 .0)
+    (λ c. at tie.After-read-sections (search) .read-sections .kept .1 .1 .0)
+    (λ c. at tie.After-store-pairs (search) .store-pairs .kept .0 ∙ at tie.After-clear (search) .clear .kept .0)
+    (λ c. at tie.After-read-sections (search) .read-sections .kept .1 .1 .1 .1 .0)
+    (λ c. at tie.After-read-sections (search) .read-sections .kept .1 .1 .1 .1 .1 .0)
     returns-2)

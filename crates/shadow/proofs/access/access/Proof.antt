@@ -11,9 +11,9 @@ use Rattle.paging.specs.Layout.{tables64, index}
 use Rattle.paging.proofs.Indices.{index-small}
 use Rattle.tables.specs.State.{shadowOf, stateOf, machine64}
 use Rattle.tables.proofs.Names.{few, root-small, frame-small}
-use mathlib.Mathlib.Logic.Function.Defs.{id as at}
 use Rattle.shadow.proofs.Accesses.{needs-small, adds-small, OnPath, path-range, access-slot, access-path, access-miss}
 use Rattle.shadow.proofs.access.access.Statement.{statement}
+use Rattle.paging.proofs.Places.{at}
 use Rattle.shadow.proofs.access.access.Tie as tie
 
 -- the way back, each path once
@@ -45,55 +45,72 @@ index-is c = c .index-of .ensures ∙ ap (index tables64 (paged (c .before .befo
 
 returns : tie.Need-returns
 returns c =
-    let a = at {A = tie.Start} (search) .args in
+    let a = at tie.Start (search) .args in
     access-slot (machine64 (a .z)) (a .map .now) (a .p) (a .a) (a .request) (stateOf (a .words .now) (shadowOf (a .pool .now) (a .records .now)) (a .slots .now))
+<<<<<<< ours
     (at {A = tie.After-page-of} (search) .page-of .ensures) (at {A = tie.After-request-of} (search) .request-of .ensures) (at {A = tie.After-serving-slot} (search) .serving-slot .ensures) (at {A = tie.Then1} (search) .if1 .taken)
     (c .host-address .ensures
     ∙ ap (λ (h : Host). hostAddress h (a .a)) (c .before .host-of .ensures ∙ ap (λ (x : ℕ). hostOf (a .map .now) (guest (getD (a .slots .now) (x + 2) 0 / 8))) (at {A = tie.After-slot-at} (search) .slot-at .ensures)))
+=======
+    (at tie.After-page-of (search) .page-of .ensures) (at tie.After-request-of (search) .request-of .ensures) (at tie.After-serving-slot (search) .serving-slot .ensures) (at tie.Then1 (search) .if1 .taken)
+    (c .value-at .ensures
+    ∙ ap (λ (h : Host). valueAt h (a .a)) (c .before .host-at .ensures ∙ ap (λ (x : ℕ). hostOf (a .map .now) (guest (getD (a .slots .now) (x + 2) 0 / 8))) (at tie.After-slot-at (search) .slot-at .ensures)))
+>>>>>>> theirs
 
 returns-2 : tie.Need-returns-2
 returns-2 c =
-    let a = at {A = tie.Start} (search) .args in
+    let a = at tie.Start (search) .args in
     access-path (machine64 (a .z)) (a .map .now) (a .p) (a .a) (a .request) (stateOf (a .words .now) (shadowOf (a .pool .now) (a .records .now)) (a .slots .now))
+<<<<<<< ours
     (at {A = tie.After-page-of} (search) .page-of .ensures) (at {A = tie.After-request-of} (search) .request-of .ensures) (at {A = tie.After-serving-slot} (search) .serving-slot .ensures) (at {A = tie.Else1} (search) .if1 .left)
     (at {A = tie.After-path-to} (search) .path-to .result) _ _ (at {A = tie.After-path-to} (search) .path-to .ensures) (index-is (at {A = tie.After-index-of} (search))) (at {A = tie.After-entry-at} (search) .entry-at .ensures)
     (sym (at {A = tie.After-path-serves} (search) .path-serves .ensures) ∙ at {A = tie.Then2} (search) .if2 .taken)
     (c .host-address2 .ensures ∙ ap (λ (f : ℕ). hostAddress (host f) (a .a)) (c .before .frame-of .ensures))
+=======
+    (at tie.After-page-of (search) .page-of .ensures) (at tie.After-request-of (search) .request-of .ensures) (at tie.After-serving-slot (search) .serving-slot .ensures) (at tie.Else1 (search) .if1 .left)
+    (at tie.After-path-to (search) .path-to .result) _ _ (at tie.After-path-to (search) .path-to .ensures) (index-is (at tie.After-index-of (search))) (at tie.After-entry-at (search) .entry-at .ensures)
+    (sym (at tie.After-path-serves (search) .path-serves .ensures) ∙ at tie.Then2 (search) .if2 .taken)
+    (c .value-at2 .ensures ∙ ap (λ (f : ℕ). valueAt (host f) (a .a)) (c .before .frame-of .ensures))
+>>>>>>> theirs
 
 returns-3 : tie.Need-returns-3
 returns-3 c =
-    let a = start (paged (at {A = tie.After-path-to} (search))) .args in
+    let a = start (paged (at tie.After-path-to (search))) .args in
     access-miss (machine64 (a .z)) (a .map .now) (a .p) (a .a) (a .request) (stateOf (a .words .now) (shadowOf (a .pool .now) (a .records .now)) (a .slots .now))
-    (paged (at {A = tie.After-path-to} (search)) .page-of .ensures) (at {A = tie.After-request-of} (search) .request-of .ensures) (at {A = tie.After-serving-slot} (search) .serving-slot .ensures) (at {A = tie.Else1} (search) .if1 .left)
-    (at {A = tie.After-path-to} (search) .path-to .result) _ _ (at {A = tie.After-path-to} (search) .path-to .ensures) (index-is (at {A = tie.After-index-of} (search))) (at {A = tie.After-entry-at} (search) .entry-at .ensures)
-    (sym (at {A = tie.After-path-serves} (search) .path-serves .ensures) ∙ at {A = tie.Else2} (search) .if2 .left)
-    (at {A = tie.After-miss} (search) .miss .ensures)
+    (paged (at tie.After-path-to (search)) .page-of .ensures) (at tie.After-request-of (search) .request-of .ensures) (at tie.After-serving-slot (search) .serving-slot .ensures) (at tie.Else1 (search) .if1 .left)
+    (at tie.After-path-to (search) .path-to .result) _ _ (at tie.After-path-to (search) .path-to .ensures) (index-is (at tie.After-index-of (search))) (at tie.After-entry-at (search) .entry-at .ensures)
+    (sym (at tie.After-path-serves (search) .path-serves .ensures) ∙ at tie.Else2 (search) .if2 .left)
+    (at tie.After-miss (search) .miss .ensures)
 
 pub access-spec : {M : Type 1} → statement M
 access-spec =
     tie.close
     (tie.spec
     (λ c κs. search needs)
-    (λ c κs. at {A = tie.Start} (search) .pre .1)
+    (λ c κs. at tie.Start (search) .pre .1)
     (λ c κs. let s : tie.Start = search in (omega (arith, s .pre .0 .own, s .pre .0 .sized .processors), s .pre .0 .triples, needs-of (c .before)))
     (λ c κs. let s : tie.Start = search in (omega (arith, s .pre .0 .own, s .pre .0 .sized .processors), c .if1 .taken))
     (λ c. search needs)
     (λ c. search needs)
     (λ c. search needs)
     (λ c κs. search needs)
+<<<<<<< ours
     (λ c κs. let s : tie.Start = search in omega (arith, ap (λ (h : Host). h .0) (c .host-of .ensures), s .pre .0 .hosts (getD (s .args .slots .now) (at {A = tie.After-slot-at} (search) .slot-at .result + 2) 0 / 8)))
+=======
+    (λ c κs. let s : tie.Start = search in omega (arith, ap (λ (h : Host). h .0) (c .host-at .ensures), s .pre .0 .hosts (getD (s .args .slots .now) (at tie.After-slot-at (search) .slot-at .result + 2) 0 / 8)))
+>>>>>>> theirs
     (λ c. search needs)
     returns
     (λ c κs. let s : tie.Start = search in (s .pre .0 .sized, s .pre .0 .own, omega arith))
     (λ c κs. omega arith)
-    (λ c κs. (omega (arith, on-path (at {A = tie.After-path-to} (search)) .table, few (at {A = tie.Start} (search) .pre .0 .sized)), omega (arith, c .index-of .ensures, index-small tables64 (at {A = tie.After-page-of} (search) .page-of .result) 1)))
-    (λ c κs. (on-path (at {A = tie.After-path-to} (search)) .rights, needs-of (at {A = tie.After-request-of} (search))))
+    (λ c κs. (omega (arith, on-path (at tie.After-path-to (search)) .table, few (at tie.Start (search) .pre .0 .sized)), omega (arith, c .index-of .ensures, index-small tables64 (at tie.After-page-of (search) .page-of .result) 1)))
+    (λ c κs. (on-path (at tie.After-path-to (search)) .rights, needs-of (at tie.After-request-of (search))))
     (λ c κs. search needs)
-    (λ c κs. omega (arith, c .frame-of .ensures, frame-small (at {A = tie.After-entry-at} (search) .entry-at .result)))
+    (λ c κs. omega (arith, c .frame-of .ensures, frame-small (at tie.After-entry-at (search) .entry-at .result)))
     (λ c. search needs)
     (λ c. search needs)
     returns-2
-    (λ c κs. (at {A = tie.Start} (search) .pre .0, (needs-of (at {A = tie.After-request-of} (search)), adds-of (at {A = tie.After-request-of} (search)))))
+    (λ c κs. (at tie.Start (search) .pre .0, (needs-of (at tie.After-request-of (search)), adds-of (at tie.After-request-of (search)))))
     (λ c. search needs)
     (λ c. search needs)
     (λ c. search needs)

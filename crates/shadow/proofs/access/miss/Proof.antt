@@ -9,10 +9,10 @@ use Rattle.paging.specs.declared.Walk.{Walk}
 use Rattle.paging.specs.Layout.{tables64}
 use Rattle.tables.specs.State.{shadowOf, stateOf, machine64, shadows}
 use Rattle.tables.proofs.Names.{few, root-small}
-use mathlib.Mathlib.Logic.Function.Defs.{id as at}
 use Rattle.shadow.proofs.Walking.{InRange, guest-range, miss-fault, miss-lacks, miss-fills}
 use Rattle.guest.specs.declared.Walked.the-variants.{Whole, Fault}
 use Rattle.shadow.proofs.access.miss.Statement.{statement}
+use Rattle.paging.proofs.Places.{at}
 use Rattle.shadow.proofs.access.miss.Tie as tie
 
 -- the way back, each path once
@@ -39,23 +39,23 @@ whole-range c last w q = rw q at (range c)
 
 returns : tie.Need-returns
 returns c =
-    let a = at {A = tie.Start} (search) .args in
+    let a = at tie.Start (search) .args in
     miss-lacks (machine64 (a .z)) (a .map .now) (a .p) (a .page) (a .q) (stateOf (a .words .now) (shadowOf (a .pool .now) (a .records .now)) (a .slots .now))
-    (at {A = tie.After-root-of} (search) .root-of .ensures) (at {A = tie.After-shadowed-by} (search) .shadowed-by .ensures) (at {A = tie.After-walk-guest} (search) .walk-guest .ensures) (at {A = tie.After-last} (search) .last .given .1)
-    (sym (at {A = tie.After-has-enough} (search) .has-enough .ensures) ∙ not-true _ (c .before .if1 .taken))
+    (at tie.After-root-of (search) .root-of .ensures) (at tie.After-shadowed-by (search) .shadowed-by .ensures) (at tie.After-walk-guest (search) .walk-guest .ensures) (at tie.After-last (search) .last .given .1)
+    (sym (at tie.After-has-enough (search) .has-enough .ensures) ∙ not-true _ (c .before .if1 .taken))
 
 returns-2 : tie.Need-returns-2
 returns-2 c =
-    let a = at {A = tie.Start} (search) .args in
+    let a = at tie.Start (search) .args in
     miss-fault (machine64 (a .z)) (a .map .now) (a .p) (a .page) (a .q) (stateOf (a .words .now) (shadowOf (a .pool .now) (a .records .now)) (a .slots .now))
-    (at {A = tie.After-root-of} (search) .root-of .ensures) (at {A = tie.After-shadowed-by} (search) .shadowed-by .ensures) (at {A = tie.After-walk-guest} (search) .walk-guest .ensures) (at {A = tie.After-base} (search) .base .given .1)
+    (at tie.After-root-of (search) .root-of .ensures) (at tie.After-shadowed-by (search) .shadowed-by .ensures) (at tie.After-walk-guest (search) .walk-guest .ensures) (at tie.After-base (search) .base .given .1)
 
 returns-3 : tie.Need-returns-3
 returns-3 c =
-    let filled = at {A = tie.After-fill} (search) .fill .ensures in
-    let dirtied = at {A = tie.After-set-d} (search) .set-d .ensures in
-    let enough = sym (at {A = tie.After-has-enough} (search) .has-enough .ensures) ∙ not-false _ (at {A = tie.Else1} (search) .if1 .left) in
-    let whole = at {A = tie.After-last} (search) .last .given .1 in
+    let filled = at tie.After-fill (search) .fill .ensures in
+    let dirtied = at tie.After-set-d (search) .set-d .ensures in
+    let enough = sym (at tie.After-has-enough (search) .has-enough .ensures) ∙ not-false _ (at tie.Else1 (search) .if1 .left) in
+    let whole = at tie.After-last (search) .last .given .1 in
     let walked : tie.After-walk-guest = search in
     let cr3 = shadowed walked in
     let a = start cr3 .args in
@@ -65,8 +65,8 @@ returns-3 c =
 add-t21 : tie.Need-add-t21
 add-t21 c =
     let base : tie.After-base = search in
-    let q : InRange (2 ^ 40) (Fault (base .base .given .0 .0)) = rw (base .base .given .1) at (range (at {A = tie.After-walk-guest} (search))) in
-    omega (arith, at {A = tie.Start} (search) .pre .1 .1)
+    let q : InRange (2 ^ 40) (Fault (base .base .given .0 .0)) = rw (base .base .given .1) at (range (at tie.After-walk-guest (search))) in
+    omega (arith, at tie.Start (search) .pre .1 .1)
 
 pub miss-spec : {M : Type 1} → statement M
 miss-spec =
@@ -74,17 +74,17 @@ miss-spec =
     (tie.spec
     (λ c κs. let s : tie.Start = search in (s .pre .0 .sized, s .pre .0 .own))
     (λ c κs. let s : tie.Start = search in omega (arith, c .root-of .ensures, root-small (s .pre .0 .sized) (s .args .p) (s .pre .0 .own), few (s .pre .0 .sized)))
-    (λ c κs. (at {A = tie.Start} (search) .pre .0 .sized .frames, cr3-small (c .before)))
+    (λ c κs. (at tie.Start (search) .pre .0 .sized .frames, cr3-small (c .before)))
     (λ c. search needs)
     add-t21
     (λ c. search needs)
-    (λ c κs. (at {A = tie.Start} (search) .pre .1 .0, whole-range (at {A = tie.After-walk-guest} (search)) (c .before .last .given .0 .0) (c .before .last .given .0 .1 .0) (c .before .last .given .1) .1))
+    (λ c κs. (at tie.Start (search) .pre .1 .0, whole-range (at tie.After-walk-guest (search)) (c .before .last .given .0 .0) (c .before .last .given .0 .1 .0) (c .before .last .given .1) .1))
     (λ c. search needs)
     (λ c. search needs)
     (λ c. search needs)
     returns
-    (λ c κs. let w : tie.After-last = search in whole-range (at {A = tie.After-walk-guest} (search)) (w .last .given .0 .0) (w .last .given .0 .1 .0) (w .last .given .1) .0)
-    (λ c κs. start (shadowed (at {A = tie.After-walk-guest} (search))) .pre .0)
+    (λ c κs. let w : tie.After-last = search in whole-range (at tie.After-walk-guest (search)) (w .last .given .0 .0) (w .last .given .0 .1 .0) (w .last .given .1) .0)
+    (λ c κs. start (shadowed (at tie.After-walk-guest (search))) .pre .0)
     (λ c. search needs)
     (λ c. search needs)
     returns-2

@@ -3,7 +3,6 @@ use mathlib.Core.Path.{ap, _∙_, subst⁻¹}
 use Prim.Native.Nat.{_<_, _≤_}
 use native.Mathlib.Omega.{arith}
 use Rattle.paging.specs.declared.Guest.{Guest}
-use mathlib.Mathlib.Logic.Function.Defs.{id as at}
 use Rattle.tables.specs.State.{Shadow, shadowOf, stateOf, machine64, tableCount, shadows}
 use Rattle.tables.specs.SizesCode.{Room, SpotFits}
 use Rattle.tables.specs.Steps.{Settled, spot, freeCount}
@@ -11,6 +10,7 @@ use Rattle.tables.proofs.Names.{few, root-small}
 use Rattle.shadow.proofs.Shares.{enough-free}
 use Rattle.shadow.proofs.Filling.{fill-emptied, fill-built, settled-spot}
 use Rattle.shadow.proofs.fill.fill.Statement.{statement}
+use Rattle.paging.proofs.Places.{at}
 use Rattle.shadow.proofs.fill.fill.Tie as tie
 
 -- the way back, each path once
@@ -85,13 +85,13 @@ build-path-requires c κs =
 build-path-requires-2 : tie.Need-build-path-requires-2
 build-path-requires-2 c κs =
     let settle : tie.After-settle = search in
-    (room-settled settle, ((on-table settle, omega (arith, at {A = tie.Else1} (search) .if1 .left, at {A = tie.After-count-free} (search) .count-free .ensures)), begun settle .pre .hosts))
+    (room-settled settle, ((on-table settle, omega (arith, at tie.Else1 (search) .if1 .left, at tie.After-count-free (search) .count-free .ensures)), begun settle .pre .hosts))
 
 returns : tie.Need-returns
 returns c =
-    let flushed = at {A = tie.After-flush} (search) .flush .ensures in
-    let built = at {A = tie.After-build-path} (search) .build-path .ensures in
-    let dropped = at {A = tie.After-empty-slots} (search) .empty-slots .ensures in
+    let flushed = at tie.After-flush (search) .flush .ensures in
+    let built = at tie.After-build-path (search) .build-path .ensures in
+    let dropped = at tie.After-empty-slots (search) .empty-slots .ensures in
     let emptied : tie.After-empty-share = search in
     let settle = settled (counted emptied) in
     let top = topped settle in
@@ -102,9 +102,9 @@ returns c =
 
 returns-2 : tie.Need-returns-2
 returns-2 c =
-    let flushed = at {A = tie.After-flush2} (search) .flush2 .ensures in
-    let built = at {A = tie.After-build-path2} (search) .build-path2 .ensures in
-    let enough = at {A = tie.Else1} (search) .if1 .left in
+    let flushed = at tie.After-flush2 (search) .flush2 .ensures in
+    let built = at tie.After-build-path2 (search) .build-path2 .ensures in
+    let enough = at tie.Else1 (search) .if1 .left in
     let counted : tie.After-count-free = search in
     let settle = settled counted in
     let top = topped settle in
@@ -118,19 +118,19 @@ fill-spec =
     (tie.spec
     (λ c κs. search)
     (λ c κs. omega (arith, root-within (c .before), few (start (c .before) .pre .sized)))
-    (λ c κs. (search, from-top (at {A = tie.After-shadowed-by} (search))))
+    (λ c κs. (search, from-top (at tie.After-shadowed-by (search))))
     (λ c κs. search)
     (λ c κs. let settle : tie.After-settle = search in (room-settled settle, begun settle .pre .own))
-    (λ c κs. let s = begun (at {A = tie.After-settle} (search)) in (omega (arith, s .pre), s .pre .triples))
+    (λ c κs. let s = begun (at tie.After-settle (search)) in (omega (arith, s .pre), s .pre .triples))
     build-path-requires
-    (λ c κs. let s = begun (settled (counted (at {A = tie.After-empty-share} (search)))) in (omega (arith, s .pre), omega (arith, at {A = tie.After-empty-slots} (search) .empty-slots .kept .0, s .pre .triples)))
+    (λ c κs. let s = begun (settled (counted (at tie.After-empty-share (search)))) in (omega (arith, s .pre), omega (arith, at tie.After-empty-slots (search) .empty-slots .kept .0, s .pre .triples)))
     build-path-requires-2
-    (λ c κs. let s = begun (at {A = tie.After-settle} (search)) in (omega (arith, s .pre), s .pre .triples))
-    (λ c. let emptied : tie.After-empty-share = search in at {A = tie.After-build-path} (search) .build-path .kept .1 .1 .0 ∙ emptied .empty-share .kept .0 ∙ settled (counted emptied) .settle .kept .1 .0)
-    (λ c. let emptied : tie.After-empty-share = search in at {A = tie.After-build-path} (search) .build-path .kept .1 .1 .1 .0 ∙ emptied .empty-share .kept .1 .0 ∙ settled (counted emptied) .settle .kept .1 .1 .0)
-    (λ c. at {A = tie.After-flush} (search) .flush .kept .0 ∙ at {A = tie.After-empty-slots} (search) .empty-slots .kept .0)
+    (λ c κs. let s = begun (at tie.After-settle (search)) in (omega (arith, s .pre), s .pre .triples))
+    (λ c. let emptied : tie.After-empty-share = search in at tie.After-build-path (search) .build-path .kept .1 .1 .0 ∙ emptied .empty-share .kept .0 ∙ settled (counted emptied) .settle .kept .1 .0)
+    (λ c. let emptied : tie.After-empty-share = search in at tie.After-build-path (search) .build-path .kept .1 .1 .1 .0 ∙ emptied .empty-share .kept .1 .0 ∙ settled (counted emptied) .settle .kept .1 .1 .0)
+    (λ c. at tie.After-flush (search) .flush .kept .0 ∙ at tie.After-empty-slots (search) .empty-slots .kept .0)
     returns
-    (λ c. at {A = tie.After-build-path2} (search) .build-path2 .kept .1 .1 .0 ∙ at {A = tie.After-settle} (search) .settle .kept .1 .0)
-    (λ c. at {A = tie.After-build-path2} (search) .build-path2 .kept .1 .1 .1 .0 ∙ at {A = tie.After-settle} (search) .settle .kept .1 .1 .0)
-    (λ c. at {A = tie.After-flush2} (search) .flush2 .kept .0)
+    (λ c. at tie.After-build-path2 (search) .build-path2 .kept .1 .1 .0 ∙ at tie.After-settle (search) .settle .kept .1 .0)
+    (λ c. at tie.After-build-path2 (search) .build-path2 .kept .1 .1 .1 .0 ∙ at tie.After-settle (search) .settle .kept .1 .1 .0)
+    (λ c. at tie.After-flush2 (search) .flush2 .kept .0)
     returns-2)

@@ -1,40 +1,21 @@
 -- The frames below i lie outside the pool.
-use mathlib.Core.Path.{_≡_, sym, ap, _∙_}
-use mathlib.Core.Bool.{true, not}
-use Prim.Native.Nat.{ℕ, _-_, _≤_}
+use mathlib.Core.Path.{sym, ap, _∙_}
+use mathlib.Core.Bool.{not}
+use Prim.Native.Nat.{_-_}
 use native.Mathlib.Omega.{arith}
 use lib.ListN.{length, getD}
-use Rattle.paging.specs.Numbers.{all}
-use Rattle.paging.proofs.Numbers.{all-none, all-more, all-fails}
 use Rattle.tables.specs.State.{machine64}
 use Rattle.shadow.specs.Refusals.{inPool}
 use Rattle.shadow.proofs.refusals.outside_pool.Statement.{statement}
+use Rattle.paging.proofs.Places.{at}
+use Rattle.paging.proofs.Loops.{Passed, passed-none, passed-more, passed-stop, passed-all}
 use Rattle.shadow.proofs.refusals.outside_pool.Tie as tie
 
 abbrev Inv-loop : tie.InvT-loop
-Inv-loop map z i₀ i = (i ≤ length map) × (all i (λ k. not (inPool (machine64 z) (getD map k 0))) ≡ true)
+Inv-loop map z i₀ i = Passed (λ k. not (inPool (machine64 z) (getD map k 0))) (length map) i
 
 abbrev μ-loop : tie.MeasureT-loop
 μ-loop map z i₀ i = length map - i
-
-returns : tie.Need-returns Inv-loop μ-loop
-returns c =
-    let a = c .before .before .before .before .before .before .args in
-    sym (all-fails (λ k. not (inPool (machine64 (a .z)) (getD (a .map .now) k 0))) (length (a .map .now)) (c .before .before .before .before .loop .i) (c .before .before .before .loop-test .taken)
-    (ap not (sym (c .before .in-pool .ensures) ∙ c .if1 .taken)))
-
-loop-again : tie.Need-loop-again Inv-loop μ-loop
-loop-again c =
-    let a = c .before .before .before .before .before .before .args in (
-      omega arith,
-      all-more (λ k. not (inPool (machine64 (a .z)) (getD (a .map .now) k 0))) (c .before .before .before .before .loop .i) (c .before .before .before .before .loop .inv .1)
-          (ap not (sym (c .before .in-pool .ensures) ∙ c .if1 .left)),
-    )
-
-returns-2 : tie.Need-returns-2 Inv-loop μ-loop
-returns-2 c =
-    let a = c .before .before .before .args in
-    sym (ap (λ (n : ℕ). all n (λ k. not (inPool (machine64 (a .z)) (getD (a .map .now) k 0)))) (omega arith) ∙ c .before .loop .inv .1)
 
 pub outside-pool-spec : {M : Type 1} → statement M
 outside-pool-spec =
@@ -42,12 +23,12 @@ outside-pool-spec =
     (tie.spec
     Inv-loop
     μ-loop
-    (λ c. (omega arith, all-none _))
+    (λ c. passed-none)
     (λ c. omega arith)
     (λ c. omega arith)
-    (λ c κs. c .before .before .before .before .pre)
-    returns
+    (λ c κs. at (tie.Start Inv-loop μ-loop) (search) .pre)
+    (λ c. passed-stop (at (tie.At-loop Inv-loop μ-loop) (search) .loop .inv) (omega arith) (ap not (sym (c .before .in-pool .ensures) ∙ c .if1 .taken)))
     (λ c. omega arith)
     (λ c. omega arith)
-    loop-again
-    returns-2)
+    (λ c. passed-more (at (tie.At-loop Inv-loop μ-loop) (search) .loop .inv) (omega arith) (ap not (sym (c .before .in-pool .ensures) ∙ c .if1 .left)))
+    (λ c. passed-all (c .before .loop .inv) (omega arith)))
