@@ -27,11 +27,11 @@ fn put_listed(answer: &mut [u64], r: Listed) -> u64
 {
     match r {
         Listed::Count(count) => {
-            trainer::copy(answer, &[0, count]);
+            paging::copy(answer, &[0, count]);
             0
         }
         Listed::Refused(number) => {
-            trainer::copy(answer, &[number, 0]);
+            paging::copy(answer, &[number, 0]);
             number
         }
     }
@@ -49,14 +49,14 @@ fn put_read(answer: &mut [u64], r: ReadResult) -> u64
             events,
             questions,
         } => {
-            trainer::copy(
+            paging::copy(
                 answer,
                 &[0, 0, frames, processors, words, events, questions],
             );
             0
         }
         ReadResult::Refused(number, line) => {
-            trainer::copy(answer, &[number, line, 0, 0, 0, 0, 0]);
+            paging::copy(answer, &[number, line, 0, 0, 0, 0, 0]);
             number
         }
     }
@@ -68,15 +68,15 @@ fn put_written(answer: &mut [u64], r: Written) -> u64
 {
     match r {
         Written::Bytes(bytes) => {
-            trainer::copy(answer, &[0, bytes, 0, 0]);
+            paging::copy(answer, &[0, bytes, 0, 0]);
             0
         }
         Written::RefusedText(number, line, bytes) => {
-            trainer::copy(answer, &[0, bytes, number, line]);
+            paging::copy(answer, &[0, bytes, number, line]);
             0
         }
         Written::Refused(number) => {
-            trainer::copy(answer, &[number, 0, 0, 0]);
+            paging::copy(answer, &[number, 0, 0, 0]);
             number
         }
     }
@@ -87,7 +87,7 @@ fn put_answer(answer: &mut [u64], r: Answer) -> u64
     ensures { λ n. ⌜ (now (answer .exit) ≡ eventNumbers r) × (n ≡ getD (eventNumbers r) 0 0) ⌝ }
 {
     let number = shadow::refusal_of(r);
-    trainer::copy(answer, &[number, shadow::kind_of(r), shadow::value_of(r)]);
+    paging::copy(answer, &[number, shadow::kind_of(r), shadow::value_of(r)]);
     number
 }
 

@@ -47,31 +47,18 @@ returns : tie.Need-returns
 returns c =
     let a = at tie.Start (search) .args in
     access-slot (machine64 (a .z)) (a .map .now) (a .p) (a .a) (a .request) (stateOf (a .words .now) (shadowOf (a .pool .now) (a .records .now)) (a .slots .now))
-<<<<<<< ours
-    (at {A = tie.After-page-of} (search) .page-of .ensures) (at {A = tie.After-request-of} (search) .request-of .ensures) (at {A = tie.After-serving-slot} (search) .serving-slot .ensures) (at {A = tie.Then1} (search) .if1 .taken)
-    (c .host-address .ensures
-    ∙ ap (λ (h : Host). hostAddress h (a .a)) (c .before .host-of .ensures ∙ ap (λ (x : ℕ). hostOf (a .map .now) (guest (getD (a .slots .now) (x + 2) 0 / 8))) (at {A = tie.After-slot-at} (search) .slot-at .ensures)))
-=======
     (at tie.After-page-of (search) .page-of .ensures) (at tie.After-request-of (search) .request-of .ensures) (at tie.After-serving-slot (search) .serving-slot .ensures) (at tie.Then1 (search) .if1 .taken)
-    (c .value-at .ensures
-    ∙ ap (λ (h : Host). valueAt h (a .a)) (c .before .host-at .ensures ∙ ap (λ (x : ℕ). hostOf (a .map .now) (guest (getD (a .slots .now) (x + 2) 0 / 8))) (at tie.After-slot-at (search) .slot-at .ensures)))
->>>>>>> theirs
+    (c .host-address .ensures
+    ∙ ap (λ (h : Host). hostAddress h (a .a)) (c .before .host-of .ensures ∙ ap (λ (x : ℕ). hostOf (a .map .now) (guest (getD (a .slots .now) (x + 2) 0 / 8))) (at tie.After-slot-at (search) .slot-at .ensures)))
 
 returns-2 : tie.Need-returns-2
 returns-2 c =
     let a = at tie.Start (search) .args in
     access-path (machine64 (a .z)) (a .map .now) (a .p) (a .a) (a .request) (stateOf (a .words .now) (shadowOf (a .pool .now) (a .records .now)) (a .slots .now))
-<<<<<<< ours
-    (at {A = tie.After-page-of} (search) .page-of .ensures) (at {A = tie.After-request-of} (search) .request-of .ensures) (at {A = tie.After-serving-slot} (search) .serving-slot .ensures) (at {A = tie.Else1} (search) .if1 .left)
-    (at {A = tie.After-path-to} (search) .path-to .result) _ _ (at {A = tie.After-path-to} (search) .path-to .ensures) (index-is (at {A = tie.After-index-of} (search))) (at {A = tie.After-entry-at} (search) .entry-at .ensures)
-    (sym (at {A = tie.After-path-serves} (search) .path-serves .ensures) ∙ at {A = tie.Then2} (search) .if2 .taken)
-    (c .host-address2 .ensures ∙ ap (λ (f : ℕ). hostAddress (host f) (a .a)) (c .before .frame-of .ensures))
-=======
     (at tie.After-page-of (search) .page-of .ensures) (at tie.After-request-of (search) .request-of .ensures) (at tie.After-serving-slot (search) .serving-slot .ensures) (at tie.Else1 (search) .if1 .left)
     (at tie.After-path-to (search) .path-to .result) _ _ (at tie.After-path-to (search) .path-to .ensures) (index-is (at tie.After-index-of (search))) (at tie.After-entry-at (search) .entry-at .ensures)
     (sym (at tie.After-path-serves (search) .path-serves .ensures) ∙ at tie.Then2 (search) .if2 .taken)
-    (c .value-at2 .ensures ∙ ap (λ (f : ℕ). valueAt (host f) (a .a)) (c .before .frame-of .ensures))
->>>>>>> theirs
+    (c .host-address2 .ensures ∙ ap (λ (f : ℕ). hostAddress (host f) (a .a)) (c .before .frame-of .ensures))
 
 returns-3 : tie.Need-returns-3
 returns-3 c =
@@ -94,11 +81,7 @@ access-spec =
     (λ c. search needs)
     (λ c. search needs)
     (λ c κs. search needs)
-<<<<<<< ours
-    (λ c κs. let s : tie.Start = search in omega (arith, ap (λ (h : Host). h .0) (c .host-of .ensures), s .pre .0 .hosts (getD (s .args .slots .now) (at {A = tie.After-slot-at} (search) .slot-at .result + 2) 0 / 8)))
-=======
-    (λ c κs. let s : tie.Start = search in omega (arith, ap (λ (h : Host). h .0) (c .host-at .ensures), s .pre .0 .hosts (getD (s .args .slots .now) (at tie.After-slot-at (search) .slot-at .result + 2) 0 / 8)))
->>>>>>> theirs
+    (λ c κs. let s : tie.Start = search in omega (arith, ap (λ (h : Host). h .0) (c .host-of .ensures), s .pre .0 .hosts (getD (s .args .slots .now) (at tie.After-slot-at (search) .slot-at .result + 2) 0 / 8)))
     (λ c. search needs)
     returns
     (λ c κs. let s : tie.Start = search in (s .pre .0 .sized, s .pre .0 .own, omega arith))
