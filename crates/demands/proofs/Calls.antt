@@ -1,13 +1,13 @@
 -- Demands 1 and 2, call by call: what a returned number says, and what a call did that returned 0.
-use mathlib.Core.Path.{_≡_, refl, sym, ap, ap₂, _∙_}
+use mathlib.Core.Path.{_≡_, refl, sym, ap, ap₂, subst, _∙_}
 use mathlib.Core.Logic.{_⊎_, inl, inr}
 use mathlib.Core.Bool.{Bool, true, false, cond}
-use mathlib.Core.List.{List, [], _∷_}
+use mathlib.Core.List.{List, [], _∷_, _++_}
 use Prim.Native.Nat.{ℕ, _<_, _≤_}
 use native.Mathlib.Decide.{ℕ-discrete}
 use native.Mathlib.Omega.{arith}
 use lib.Dec.{eqb}
-use lib.ListN.{length, getD}
+use lib.ListN.{length, getD, drop}
 use borrow.Author.Tests.{eq-eqb, ne-eqb}
 use Rattle.rules.specs.declared.Event.{Event}
 use Rattle.listing.specs.declared.Listed.{Listed}
@@ -36,7 +36,8 @@ use Rattle.puzzle.specs.declared.ReadResult.the-variants.{Refused as Unread}
 use Rattle.puzzle.specs.Buffers.{Buffers, After, answer, sized, readCall}
 use Rattle.puzzle.proofs.Theorems.{ten-or-eleven}
 use Rattle.trainer.specs.declared.Written.{Written}
-use Rattle.trainer.specs.Call.{puzzleIn, toldOf, Lines}
+use Rattle.render.specs.Render.{renderRefusal}
+use Rattle.trainer.specs.Call.{puzzleIn, toldOf, outputSize, Lines, Prints, Printed}
 use Rattle.flamecurl.specs.Exports.{listNumbers, eventNumbers, readNumbers, writtenNumbers, ListExport, SetupExport, EventExport, ReadExport, PrintExport}
 use Rattle.demands.specs.Refuses.{Refuses, readNumber, readLine}
 use Rattle.demands.proofs.Given.{given, refuses, setup-refused, setup-done, setup-number, event-refused, event-number}
@@ -166,14 +167,37 @@ told-zero (got z at) n = refl
 told-zero (refused number line) n = refl
 
 pub print-refuses : (Of : Lines) (text before last : List ℕ) {answer told : List ℕ} {n : ℕ} → PrintExport Of text before last answer n told
-    → Refuses 4 (cond (eqb (length before) 16384) 0 1) (0 ∷ 0 ∷ 0 ∷ []) before last answer n told
-print-refuses Of text before last {answer} {told} {n} c = go (ℕ-discrete (length before) 16384)
+    → Refuses 4 (cond (eqb (length before) outputSize) 0 1) (0 ∷ 0 ∷ 0 ∷ []) before last answer n told
+print-refuses Of text before last {answer} {told} {n} c = go (ℕ-discrete (length before) outputSize)
   where
-    go : Dec (length before ≡ 16384) → Refuses 4 (cond (eqb (length before) 16384) 0 1) (0 ∷ 0 ∷ 0 ∷ []) before last answer n told
+    go : Dec (length before ≡ outputSize) → Refuses 4 (cond (eqb (length before) outputSize) 0 1) (0 ∷ 0 ∷ 0 ∷ []) before last answer n told
     go (yes h) =
-        let right : _≡_ {A = ℕ} (cond (eqb (length before) 16384) 0 1) 0 = simp (eq-eqb (length before) 16384 h) in
+        let right : _≡_ {A = ℕ} (cond (eqb (length before) outputSize) 0 1) 0 = simp (eq-eqb (length before) outputSize h) in
         refuses c (omega (arith, right)) (λ r g. ap (λ (w : Written). getD (writtenNumbers w) 0 0) (g .printed h .counted) ∙ told-zero (puzzleIn text) _ ∙ sym right) (λ r g some. absurd (some right))
     go (no h) =
-        let other : _≡_ {A = ℕ} (cond (eqb (length before) 16384) 0 1) 1 = simp (ne-eqb (length before) 16384 h) in
+        let other : _≡_ {A = ℕ} (cond (eqb (length before) outputSize) 0 1) 1 = simp (ne-eqb (length before) outputSize h) in
         refuses c (omega (arith, other)) (λ r g. ap (λ (w : Written). getD (writtenNumbers w) 0 0) (g .refused h .0) ∙ sym other)
         (λ r g some. (g .refused h .1, ap writtenNumbers (g .refused h .0) ∙ ap (λ (m : ℕ). m ∷ 0 ∷ 0 ∷ 0 ∷ []) (sym other)))
+
+-- a call that returned 0 printed
+pub printed : (Of : Lines) (text before last : List ℕ) {answer told : List ℕ} → PrintExport Of text before last answer 0 told
+    → (r : Written) × (told ≡ writtenNumbers r) × Printed Of text before r last
+printed Of text before last {told = told} c = go (ℕ-discrete (length before) outputSize)
+  where
+    go : Dec (length before ≡ outputSize) → (r : Written) × (told ≡ writtenNumbers r) × Printed Of text before r last
+    go (no h) =
+        let a = given c refl in
+        let one = ap (λ (w : Written). getD (writtenNumbers w) 0 0) (a .call .refused h .0) in
+        absurd (omega (arith, a .first, one))
+    go (yes h) = let a = given c refl in (a .result, a .laid, a .call .printed h)
+
+-- of a refused text the line `R number line` is printed, and its number and line are told
+pub text-told : (Of : Lines) (text before last : List ℕ) {answer told : List ℕ} {number line : ℕ} → PrintExport Of text before last answer 0 told
+    → puzzleIn text ≡ refused number line
+    → (last ≡ renderRefusal number line ++ drop (length (renderRefusal number line)) before) × (told ≡ 0 ∷ length (renderRefusal number line) ∷ number ∷ line ∷ [])
+text-told Of text before last {number = number} {line = line} c e =
+    let (r, laid, p) = printed Of text before last c in
+    let row : p .bytes ≡ renderRefusal number line = subst (λ (m : Got Puzzle). Prints Of m (p .bytes)) e (p .prints) in (
+      p .holds ∙ ap (λ (l : List ℕ). l ++ drop (length l) before) row,
+      laid ∙ ap writtenNumbers (p .counted) ∙ ap₂ (λ (m : Got Puzzle) (n : ℕ). writtenNumbers (toldOf m n)) e (ap length row),
+    )

@@ -2,9 +2,7 @@
 use mathlib.Core.Path.{_≡_, refl, sym, ap, subst, _∙_}
 use mathlib.Core.List.{List, [], _++_}
 use Prim.Native.Nat.{ℕ, zero, suc, _+_, _*_, _/_}
-use native.Mathlib.Decide.{ℕ-discrete}
-use native.Mathlib.Omega.{arith}
-use lib.ListN.{length, getD, drop, replicate, length-replicate}
+use lib.ListN.{length, drop, replicate, length-replicate}
 use Rattle.rules.specs.History.{eventAt}
 use Rattle.rules.specs.Numbers.{eventsOf}
 use Rattle.tables.specs.declared.Sizes.{Sizes}
@@ -14,15 +12,14 @@ use Rattle.shadow.specs.Runs.{stateAfter, answerOf}
 use Rattle.sections.specs.Sections.{Got, got, Puzzle}
 use Rattle.puzzle.specs.Buffers.{wordsOf}
 use Rattle.puzzle.proofs.Theorems.{words-long}
-use Rattle.trainer.specs.declared.Written.{Written}
 use Rattle.trainer.specs.Call.{puzzleIn, Prints}
 use Rattle.trainer.specs.Run.{sizesOf, answerLine, RunOf}
 use Rattle.trainer.proofs.Turns.{joined-same}
 use Rattle.trainer.proofs.Theorems.{read, starts}
 use Rattle.promise.specs.Demand.{stateAt, answerAt}
-use Rattle.flamecurl.specs.Exports.{writtenNumbers, PrintExport}
+use Rattle.flamecurl.specs.Exports.{PrintExport}
 use Rattle.demands.proofs.Setups.{setup-fits}
-use Rattle.demands.proofs.Given.{given}
+use Rattle.demands.proofs.Calls.{printed}
 use Rattle.demands.specs.RunProgram.{machineFor, runFor, printedFor}
 use Rattle.promise.proofs.Lossless.{none-lost}
 use Rattle.shadow.specs.Setup.{started}
@@ -64,18 +61,11 @@ module _ (text : List ℕ) {z : Puzzle} {at : ℕ} (e : puzzleIn text ≡ got z 
 
   -- WHAT `run` PRINTS ARE THE ANSWERS OF THAT RUN
   pub run-prints : (before after : List ℕ) {answer told : List ℕ} → PrintExport RunOf text before after answer 0 told → after ≡ printedFor z ++ drop (length (printedFor z)) before
-  run-prints before after c = go (ℕ-discrete (length before) 16384)
+  run-prints before after c =
+      let p = printed RunOf text before after c .2 in
+      p .holds ∙ ap (λ (l : List ℕ). l ++ drop (length l) before) (lines (p .bytes) (p .prints))
     where
       lines : (bytes : List ℕ) → Prints RunOf (puzzleIn text) bytes → bytes ≡ printedFor z
       lines bytes h =
           subst (λ (m : Got Puzzle). Prints RunOf m bytes) e h
           ∙ joined-same (length (z .events) / 4) _ _ (λ k l. ap (answerLine (k + 1)) (sym (same-answer z k)))
-
-      go : Dec (length before ≡ 16384) → after ≡ printedFor z ++ drop (length (printedFor z)) before
-      go (no h) =
-          let a = given c refl in
-          let one = ap (λ (w : Written). getD (writtenNumbers w) 0 0) (a .call .refused h .0) in
-          absurd (omega (arith, a .first, one))
-      go (yes h) =
-          let p = given c refl .call .printed h in
-          p .holds ∙ ap (λ (l : List ℕ). l ++ drop (length l) before) (lines (p .bytes) (p .prints))

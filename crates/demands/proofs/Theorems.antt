@@ -22,9 +22,10 @@ use Rattle.shadow.specs.declared.Answer.the-variants.{Refused}
 use Rattle.shadow.specs.After.{moved}
 use Rattle.shadow.specs.Moves.{decode}
 use Rattle.trees.proofs.Entries.{laid64}
-use Rattle.sections.specs.Sections.{got, Puzzle}
+use Rattle.sections.specs.Sections.{got, refused, Puzzle}
 use Rattle.puzzle.specs.Buffers.{Buffers}
-use Rattle.trainer.specs.Call.{puzzleIn}
+use Rattle.render.specs.Render.{renderRefusal}
+use Rattle.trainer.specs.Call.{puzzleIn, outputSize, Lines}
 use Rattle.trainer.specs.Answers.{AnswersOf}
 use Rattle.trainer.specs.Run.{RunOf}
 use Rattle.promise.specs.Demand.{Accepts, Demand, SettlesInTwo, answerAt}
@@ -60,12 +61,18 @@ pub read-refuses : (text : List ℕ) (before after : Buffers) (answer told : Lis
 read-refuses text before after answer told n = calls.read-refuses text before after
 
 pub answers-refuses : (text before after : List ℕ) (answer told : List ℕ) (n : ℕ) → PrintExport AnswersOf text before after answer n told
-    → Refuses 4 (cond (eqb (length before) 16384) 0 1) (0 ∷ 0 ∷ 0 ∷ []) before after answer n told
+    → Refuses 4 (cond (eqb (length before) outputSize) 0 1) (0 ∷ 0 ∷ 0 ∷ []) before after answer n told
 answers-refuses text before after answer told n = calls.print-refuses AnswersOf text before after
 
 pub run-refuses : (text before after : List ℕ) (answer told : List ℕ) (n : ℕ) → PrintExport RunOf text before after answer n told
-    → Refuses 4 (cond (eqb (length before) 16384) 0 1) (0 ∷ 0 ∷ 0 ∷ []) before after answer n told
+    → Refuses 4 (cond (eqb (length before) outputSize) 0 1) (0 ∷ 0 ∷ 0 ∷ []) before after answer n told
 run-refuses text before after answer told n = calls.print-refuses RunOf text before after
+
+-- a refused text is no refusal of these two: they print `R number line`, and the answer tells number and line
+pub text-told : (Of : Lines) (text before after : List ℕ) (answer told : List ℕ) (number line : ℕ) → PrintExport Of text before after answer 0 told
+    → puzzleIn text ≡ refused number line
+    → (after ≡ renderRefusal number line ++ drop (length (renderRefusal number line)) before) × (told ≡ 0 ∷ length (renderRefusal number line) ∷ number ∷ line ∷ [])
+text-told Of text before after answer told number line = calls.text-told Of text before after
 
 -- setup has no answer buffer
 pub setup-refuses : (z : Sizes) (map cr3s : List ℕ) (before after : State) (n : ℕ) → SetupExport z map cr3s before n after
