@@ -5,7 +5,11 @@ use trainer::Program;
 ghost use mathlib.Core.Path.{_≡_};
 ghost use Prim.Native.Nat.{_≤_};
 ghost use lib.ListN.{length};
+ghost use Rattle.trainer.specs.Call.{outputSize};
 ghost use Rattle.terminal.specs.Input.{Within};
+
+// One byte more than a text may have.
+const ASKED: usize = sections::TEXT_SIZE + 1;
 
 // So many bytes, or a read that failed.
 enum Input {
@@ -46,7 +50,7 @@ fn read_text(text: &mut [u8]) -> Input
 }
 
 fn write_lines(text: &[u8], output: &mut [u8], program: Program)
-    requires { ⌜ length (now output) ≡ 16384 ⌝ }
+    requires { ⌜ length (now output) ≡ outputSize ⌝ }
 {
     let r = trainer::print(text, output, program);
     let n = trainer::bytes_of(r) as usize;
@@ -56,7 +60,7 @@ fn write_lines(text: &[u8], output: &mut [u8], program: Program)
 }
 
 fn answer(text: &mut [u8], output: &mut [u8], program: Program)
-    requires { ⌜ length (now output) ≡ 16384 ⌝ }
+    requires { ⌜ length (now output) ≡ outputSize ⌝ }
 {
     match read_text(text) {
         Input::Bytes(n) => write_lines(&text[..n], output, program),
@@ -65,7 +69,7 @@ fn answer(text: &mut [u8], output: &mut [u8], program: Program)
 }
 
 pub fn serve(program: Program) {
-    let mut text = [0u8; 65537];
-    let mut output = [0u8; 16384];
+    let mut text = [0u8; ASKED];
+    let mut output = [0u8; trainer::OUTPUT_SIZE];
     answer(&mut text, &mut output, program);
 }
