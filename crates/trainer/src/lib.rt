@@ -28,6 +28,17 @@ pub enum Written {
 // Room for every output.
 pub const OUTPUT_SIZE: usize = 16384;
 
+// "The programs take … S = 4": words and records of a processor's four tables; and buffers for four processors.
+const SHARE_WORDS: usize = 2048;
+
+const SHARE_RECORDS: usize = 8;
+
+const POOL: usize = 8192;
+
+const RECORDS: usize = 32;
+
+const SLOTS: usize = 96;
+
 pub fn bytes_of(r: Written) -> u64
     ensures { λ n. ⌜ n ≡ bytesOf r ⌝ }
 {
@@ -224,8 +235,8 @@ fn put_share(
         map,
         cr3s,
         words,
-        &mut pool[..2048 * p],
-        &mut records[..8 * p],
+        &mut pool[..SHARE_WORDS * p],
+        &mut records[..SHARE_RECORDS * p],
         &mut slots[..slots::SLOTS_SIZE as usize * p],
         events,
     )
@@ -236,9 +247,9 @@ fn put_run(out: &mut [u8], map: &[u64], cr3s: &[u64], words: &mut [u64], events:
     requires { ⌜ (length (now out) ≡ outputSize) × (length (now events) ≤ eventsSize) × Startable (now map) (now cr3s) ⌝ }
     ensures { λ r. ⌜ RunPut (now (map .entry)) (now (cr3s .entry)) (now (words .entry)) (now (events .entry)) (now (out .entry)) r (now (out .exit)) ⌝ }
 {
-    let mut pool = [0u64; 8192];
-    let mut records = [0u64; 32];
-    let mut slots = [0u64; 96];
+    let mut pool = [0u64; POOL];
+    let mut records = [0u64; RECORDS];
+    let mut slots = [0u64; SLOTS];
     put_share(
         out,
         map,
