@@ -1,4 +1,6 @@
 // Every permitted outcome of each question of the puzzle that is read.
+#![tactic(auto)]
+
 use trainer::Program;
 
 fn main() {

@@ -1,4 +1,6 @@
 // Buffers of numbers, for the programs of the gate: put, drawn, copied, compared, summed and printed.
+#![tactic(auto)]
+
 pub mod draw;
 pub mod guest;
 

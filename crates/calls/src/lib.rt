@@ -1,5 +1,7 @@
 // The machine's two calls, for the program that plays a script: on copies of the state's buffers, cut as the script asks
 // for. What a call leaves is held to the state before it, and put there.
+#![tactic(auto)]
+
 ghost use Rattle.std.specs.Prelude.{◌≤◌, ◌≡◌, length};
 
 use buffers::{at, begins, copy, print, print_number};

@@ -1,24 +1,26 @@
 // The text read number by number: past the blanks, the next number; first by value, then over a lent cursor.
+#![tactic(auto)]
+
 ghost use Rattle.std.specs.Prelude.{◌≡◌, ◌≤◌, length};
 ghost use Rattle.cursor.specs.Text.{cursor_at, past_blanks, next_at};
 ghost use Rattle.cursor.specs.CursorCode.{Stands, digits_at, past_number, Stepped};
 
 // "The reader knows at each byte which line it has reached"
-#[derive(Drop)]
+#[derive(Clone, Copy)]
 pub struct Cursor {
     pub at: usize,
     pub line: u64,
 }
 
 // The value of a run of digits and the place after it; or 2^64 or more.
-#[derive(Drop)]
+#[derive(Clone, Copy)]
 pub enum Digits {
     Value(u64, usize),
     Big,
 }
 
 // A number and the cursor after it, on the number's own line; or the line where none can be read: refusal 10.
-#[derive(Drop)]
+#[derive(Clone, Copy)]
 pub enum Next {
     Number(u64, Cursor),
     Bad(u64),

@@ -1,5 +1,7 @@
 // The public library as a C interface: a slice is a pointer and a count, an answer is document 01's numbers in a lent buffer,
 // and each function returns the refusal number.
+#![tactic(auto)]
+
 ghost use Rattle.std.specs.Prelude.{◌≡◌, [], length, get_or};
 ghost use Rattle.tables.specs.State.{shadow_of, state_of};
 ghost use Rattle.listing.specs.Call.{asked, lent};

@@ -1,4 +1,6 @@
 // The walk of the guest's own tables: its entries are read, and A and D set in them.
+#![tactic(auto)]
+
 ghost use Rattle.std.specs.Prelude.{◌≡◌, ◌^◌, ◌<◌, ◌≤◌};
 ghost use Rattle.paging.specs.Layout.{tables64};
 ghost use Rattle.guest.specs.GuestWalk.{guest_walk, walk_guest, guest_entry, dirtied};
@@ -6,7 +8,7 @@ ghost use Rattle.guest.specs.GuestWalk.{guest_walk, walk_guest, guest_entry, dir
 use paging::{Guest, Request, Step, Walk};
 
 // How a walk of the guest's tables ended: whole, with the last table it read; or with a fault's base code.
-#[derive(Drop)]
+#[derive(Clone, Copy)]
 pub enum Walked {
     Whole(Guest, Walk),
     Fault(u64),

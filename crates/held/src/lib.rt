@@ -1,5 +1,7 @@
 // The held walks of one processor and one page, as bytes that a caller lends: marked, followed, forgotten.
 // A walk has at most one extension, so closing under extension is following a chain.
+#![tactic(auto)]
+
 ghost use Rattle.std.specs.Prelude.{◌≡◌, ◌+◌, ◌-◌, ◌*◌, ◌≤◌, ◌<◌, length};
 ghost use Rattle.paging.specs.Layout.{tables64, frame_words};
 ghost use Rattle.held.specs.Work.{cell, work_bytes, HasByte};

@@ -1,5 +1,7 @@
 // Runs the list call on puzzles of document 01 that no theorem evaluates, and prints what it answers and leaves.
 // A call's line is the refusal's number, the count, and the pairs of the outcome buffer.
+#![tactic(auto)]
+
 mod large;
 mod print;
 mod sides;

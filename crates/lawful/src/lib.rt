@@ -1,4 +1,6 @@
 // Whether a state keeps the state rules.
+#![tactic(auto)]
+
 ghost use Rattle.std.specs.Prelude.{◌≡◌, List, ℕ, ◌+◌, ◌*◌, ◌/◌, ◌%◌, ◌<◌, ◌≤◌, length};
 ghost use Rattle.paging.specs.Layout.{tables64, frame_words};
 ghost use Rattle.paging.specs.Numbers.{all};

@@ -1,5 +1,7 @@
 // The list call: every permitted outcome of a question, over lent buffers.
 // Everything is tested before anything is written; then the events are taken one by one, with the held walks as bytes.
+#![tactic(auto)]
+
 ghost use Rattle.std.specs.Prelude.{◌≡◌, ℕ, ◌+◌, ◌-◌, ◌*◌, ◌/◌, ◌%◌, ◌≤◌, ◌<◌, length, List};
 ghost use Rattle.held.specs.Work.{work_bytes};
 ghost use Rattle.rules.specs.History.{setup64, event_refusal};
@@ -14,7 +16,7 @@ use paging::{Guest, Request, Step, Walk};
 use rules::{Event, Question};
 
 // The number of outcomes, or why the call was refused.
-#[derive(Drop)]
+#[derive(Clone, Copy)]
 pub enum Listed {
     Count(u64),
     Refused(u64),
@@ -182,7 +184,7 @@ fn stop_at(words: &[u64], work: &[u8], frames: u64, page: u64, k: usize) -> u64
 }
 
 // Which faults of entries the held partial walks give.
-#[derive(Drop)]
+#[derive(Clone, Copy)]
 struct Faults {
     absent: bool,
     beyond: bool,

@@ -1,5 +1,7 @@
 // The words of the trade: requests, entries, walks, guest and host frames.
 // Every shift and mask of the project stands here. Callers speak of indices, frames, rights and steps.
+#![tactic(auto)]
+
 ghost use Rattle.std.specs.Prelude.{◌≡◌, ◌<◌, ◌≤◌, ◌^◌, length, replicate};
 ghost use Rattle.paging.specs.Numbers.{is_between};
 ghost use Rattle.paging.specs.NotesCode.{noted_at, Noted};
@@ -9,7 +11,7 @@ ghost use Rattle.paging.specs.Walk.{start, narrowed, down_to, step, meet};
 ghost use Rattle.paging.specs.Request.{request_of, enough};
 
 // The rights that a request needs, W + 2 U + 4 X, and what it adds to a fault's code.
-#[derive(Drop)]
+#[derive(Clone, Copy)]
 pub struct Request {
     pub needs: u64,
     pub adds: u64,
@@ -167,14 +169,14 @@ pub fn copy(words: &mut [u64], start: &[u64])
 
 // ---- frames
 
-#[derive(Drop)]
+#[derive(Clone, Copy)]
 pub struct Guest(pub u64);
 
-#[derive(Drop)]
+#[derive(Clone, Copy)]
 pub struct Host(pub u64);
 
 // The guest frame behind a host frame, if there is one.
-#[derive(Drop)]
+#[derive(Clone, Copy)]
 pub enum Origin {
     Of(Guest),
     Nowhere,
@@ -297,7 +299,7 @@ pub fn cr3s_fit(frames: u64, cr3s: &[u64]) -> bool
 }
 
 // Where a walk stands: the level of its next entry (0: it is complete), the frame, the rights it has left.
-#[derive(Drop)]
+#[derive(Clone, Copy)]
 pub struct Walk {
     pub level: u64,
     pub frame: Guest,
@@ -305,7 +307,7 @@ pub struct Walk {
 }
 
 // What a walk does at an entry: it goes on; P is 0; the frame is none of the guest's; it was complete before.
-#[derive(Drop)]
+#[derive(Clone, Copy)]
 pub enum Step {
     On(Walk),
     Absent,

@@ -1,4 +1,6 @@
 // From the bytes of a puzzle to its map, CR3s, words, events and questions, or to the first fault's number and line.
+#![tactic(auto)]
+
 ghost use Rattle.std.specs.Prelude.{◌≡◌, true, ◌*◌, ◌≤◌, length, take, replicate};
 ghost use Rattle.sections.specs.Sections.{puzzle_of};
 ghost use Rattle.sections.specs.PartsCode.{capacity};
@@ -9,7 +11,7 @@ use cursor::Cursor;
 use sections::{Part, Section};
 
 // The count of each section, or a refusal number and its line.
-#[derive(Drop)]
+#[derive(Clone, Copy)]
 pub enum ReadResult {
     Accepted {
         frames: u64,

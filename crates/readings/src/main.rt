@@ -1,6 +1,8 @@
 // Runs `puzzle::read` on the texts of stdin and prints what it answers.
 // A case is `label=text|`; its line is the label, the result, and a sum of each buffer.
 // Every buffer starts as sevens, so that the sums of a refusal show that nothing was written.
+#![tactic(auto)]
+
 ghost use Rattle.std.specs.Prelude.{◌≤◌, length};
 
 use buffers::{print, print_number, sum};

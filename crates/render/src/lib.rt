@@ -1,4 +1,6 @@
 // The lines of `answers` and `run`, written into a lent buffer. Each function takes the place of its first byte and gives the one after its last.
+#![tactic(auto)]
+
 ghost use Rattle.std.specs.Prelude.{◌≡◌, ◌∷◌, ◌+◌, ◌*◌, ◌<◌, ◌≤◌, length};
 ghost use Rattle.cursor.specs.Text.{digits_of};
 ghost use Rattle.render.specs.Render.{line, render_event};

@@ -1,4 +1,6 @@
 // What document 01 permits: events, moments, held walks, every permitted outcome of a question.
+#![tactic(auto)]
+
 ghost use Rattle.std.specs.Prelude.{◌≡◌, cond, List, ℕ, ◌+◌, ◌*◌, ◌<◌, ◌≤◌, length};
 ghost use Rattle.rules.specs.History.{setup64, event_refusal};
 ghost use Rattle.rules.specs.Numbers.{event_of};
@@ -6,7 +8,7 @@ ghost use Rattle.rules.specs.Numbers.{event_of};
 use paging::Guest;
 
 // "Four numbers each: processor p, kind, a, b"
-#[derive(Drop)]
+#[derive(Clone, Copy)]
 pub struct Event {
     pub proc: u64,
     pub kind: u64,
@@ -14,7 +16,7 @@ pub struct Event {
     pub b: u64,
 }
 
-#[derive(Drop)]
+#[derive(Clone, Copy)]
 pub struct Question {
     pub proc: u64,
     pub addr: u64,
@@ -22,7 +24,7 @@ pub struct Question {
 }
 
 // An address in a guest frame, or a fault with its code.
-#[derive(Drop)]
+#[derive(Clone, Copy)]
 pub enum Outcome {
     Address(Guest),
     Fault(u64),

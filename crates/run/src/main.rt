@@ -1,4 +1,6 @@
 // What the shadow machine answers to each event of the puzzle that is read.
+#![tactic(auto)]
+
 use trainer::Program;
 
 fn main() {

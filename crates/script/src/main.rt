@@ -5,11 +5,13 @@
 // cr3s (a setup call), event (an event call): the answer's refusal, kind and value, and whether a buffer changed;
 // Words, Pool, Records, Slots (places): what stands there. Any other line is printed as it is.
 // All buffers stand in one, the state, one after the other.
+#![tactic(auto)]
+
 mod text;
 
 ghost use Rattle.std.specs.Prelude.{◌≤◌, ◌≡◌, length};
 
-#[derive(Drop)]
+#[derive(Clone, Copy)]
 struct Part {
     from: usize,
     to: usize,

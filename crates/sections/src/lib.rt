@@ -1,4 +1,6 @@
 // A section of a puzzle text: a count and its numbers, each in its range, read into the front of a buffer.
+#![tactic(auto)]
+
 ghost use Rattle.std.specs.Prelude.{◌≡◌, [], ◌*◌, ◌≤◌, length, take};
 ghost use Rattle.sections.specs.Sizes.{most_frames};
 ghost use Rattle.sections.specs.Sections.{map_range, word_range, event_so_far, event_range, question_range, width, count_range, in_range, numbers, section};
@@ -28,7 +30,7 @@ pub const EVENTS_SIZE: usize = 4 * MOST_EVENTS;
 pub const QUESTIONS_SIZE: usize = 3 * MOST_QUESTIONS;
 
 // The sections of a puzzle text, in their order.
-#[derive(Drop)]
+#[derive(Clone, Copy)]
 pub enum Section {
     Map,
     Cr3s,
@@ -38,7 +40,7 @@ pub enum Section {
 }
 
 // The count of a section and the cursor after it, or a refusal number and its line.
-#[derive(Drop)]
+#[derive(Clone, Copy)]
 pub enum Part {
     Read(u64, Cursor),
     Refused(u64, u64),

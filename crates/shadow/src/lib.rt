@@ -1,5 +1,7 @@
 // The machine: setup, and one call for each event. What is refused, what each event does and how access and the fill of
 // the shadow go stand in a file each.
+#![tactic(auto)]
+
 mod access;
 mod events;
 mod fill;
@@ -20,7 +22,7 @@ use tables::Sizes;
 
 // "Answer: refusal, kind (0 done, 1 address, 2 guest fault, 3 again, 4 no step), value"; `refusal_of`, `kind_of` and
 // `value_of` of specs/Answer give these numbers.
-#[derive(Drop)]
+#[derive(Clone, Copy)]
 pub enum Answer {
     Done,
     Address(u64),
@@ -70,7 +72,7 @@ pub fn value_of(a: Answer) -> u64
 }
 
 // Where a walk moves to: a guest frame or a table; or nowhere.
-#[derive(Drop)]
+#[derive(Clone, Copy)]
 pub enum Place {
     At(u64),
     Off,

@@ -1,4 +1,6 @@
 // The eight slots of a processor: the lowest that serves, and the flush of a page.
+#![tactic(auto)]
+
 ghost use Rattle.std.specs.Prelude.{◌≡◌, ◌+◌, ◌*◌, ◌^◌, ◌<◌, ◌≤◌, length};
 ghost use Rattle.slots.specs.Slots.{slot_count, slots_size, slot_at, with_slot, slot_serves, serving_slot, flushed, flush, empty_slots};
 

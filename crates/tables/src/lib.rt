@@ -1,4 +1,6 @@
 // The shadow tables of all processors: what an entry and a record say, and the steps that events are made of.
+#![tactic(auto)]
+
 ghost use Rattle.std.specs.Prelude.{◌≡◌, ℕ, ◌+◌, ◌-◌, ◌*◌, ◌^◌, ◌<◌, ◌≤◌, length, get_or};
 ghost use Rattle.paging.specs.Layout.{tables64, frame_words};
 ghost use Rattle.tables.specs.State.{machine64, shadow_of, record_size, level_of, shadows, with_record, table_count, home_of, owner_of, root_of, named, down, path_to};
@@ -8,7 +10,7 @@ ghost use Rattle.tables.specs.SizesCode.{Sized, Room, SpotFits};
 use paging::Guest;
 
 // "G frames", "P processors", "a share of S shadow tables", and the pool base.
-#[derive(Drop)]
+#[derive(Clone, Copy)]
 pub struct Sizes {
     pub frames: u64,
     pub processors: u64,
@@ -17,7 +19,7 @@ pub struct Sizes {
 }
 
 // Where a path through the shadow tables stands: the level of its next entry, the table, the rights of all entries passed.
-#[derive(Drop)]
+#[derive(Clone, Copy)]
 pub struct Path {
     pub level: u64,
     pub table: u64,
@@ -25,7 +27,7 @@ pub struct Path {
 }
 
 // Where a fill stands: how many tables are still missing below, the shadow table, and the guest frame it shadows.
-#[derive(Drop)]
+#[derive(Clone, Copy)]
 pub struct Spot {
     pub missing: u64,
     pub table: u64,

@@ -1,6 +1,8 @@
 // Reads a puzzle from standard input to its end and prints what a program says of it. One byte more than a puzzle may have
 // is asked for, so that over-long text is seen. A read that fails is not the end of the text: then nothing is printed, and a
 // line on standard error says why. No program can return a status here, so that line is what tells a caller.
+#![tactic(auto)]
+
 ghost use Rattle.std.specs.Prelude.{◌≡◌, ◌≤◌, length};
 ghost use Rattle.trainer.specs.Call.{output_size};
 ghost use Rattle.terminal.specs.Input.{Within};
@@ -11,7 +13,7 @@ use trainer::Program;
 const ASKED: usize = sections::TEXT_SIZE + 1;
 
 // So many bytes, or a read that failed.
-#[derive(Drop)]
+#[derive(Clone, Copy)]
 enum Input {
     Bytes(usize),
     Failed,

@@ -1,4 +1,6 @@
 // `answers` and `run`: from the text of a puzzle to the lines that are printed, in a lent buffer.
+#![tactic(auto)]
+
 ghost use Rattle.std.specs.Prelude.{◌≡◌, ◌+◌, ◌*◌, ◌/◌, ◌≤◌, ◌<◌, length};
 ghost use Rattle.puzzle.specs.Buffers.{buffers};
 ghost use Rattle.rules.specs.Numbers.{question_of};
@@ -18,7 +20,7 @@ use shadow::Answer;
 use tables::Sizes;
 
 // The number of bytes written for an accepted text; a refused text's number, line and bytes; or why the call was refused.
-#[derive(Drop)]
+#[derive(Clone, Copy)]
 pub enum Written {
     Bytes(u64),
     RefusedText(u64, u64, u64),
@@ -49,7 +51,7 @@ pub fn bytes_of(r: Written) -> u64
     }
 }
 
-#[derive(Drop)]
+#[derive(Clone, Copy)]
 pub enum Program {
     Answers,
     Run,
