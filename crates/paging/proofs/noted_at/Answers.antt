@@ -2,11 +2,7 @@
 use Prim.Native.Nat.{◌/◌, ◌^◌}
 use native.Mathlib.Omega.{arith}
 use lib.Bits.{bit_xor, and_mask}
-use Rattle.paging.proofs.noted_at.Statement.{statement}
-use Rattle.paging.proofs.noted_at.Tie as tie
+use Rattle.paging.proofs.noted_at.Goals as goal
 
-returns : tie.Need-returns
+pub returns : goal.returns
 returns c = let e = and_mask (bit_xor c.args.f (c.args.f / 2 ^ 12)) 12 in (e, omega (arith, e))
-
-pub noted-at-spec : {M : Type 1} → statement M
-noted-at-spec = tie.close (tie.spec returns)

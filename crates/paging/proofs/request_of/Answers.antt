@@ -11,8 +11,7 @@ use Rattle.paging.specs.Layout.{tables64}
 use Rattle.paging.specs.Request.{request_of}
 use Rattle.paging.proofs.Tests.{and_l, and_r}
 use Rattle.paging.proofs.Finite.{at-below}
-use Rattle.paging.proofs.request_of.Statement.{statement}
-use Rattle.paging.proofs.request_of.Tie as tie
+use Rattle.paging.proofs.request_of.Goals as goal
 
 abbrev row : ℕ → ℕ → Request
 row n a = record { needs = n; adds = a }
@@ -25,14 +24,11 @@ unfolding request_of
 right k =
     eqb (get_or table k (row 0 0)).needs (request_of tables64 k).needs && eqb (get_or table k (row 0 0)).adds (request_of tables64 k).adds
 
-returns : tie.Need-returns
+pub returns : goal.returns
 unfolding request_of
 returns c =
-    let k = c.before.args.number in
+    let k = c.args.number in
     let t = at-below 6 right tt k (search rules) in
     let q = get_or table k (row 0 0) in
     let s = request_of tables64 k in
     ap₂ row (eqb→eq q.needs s.needs (and_l (eqb q.needs s.needs) _ t)) (eqb→eq q.adds s.adds (and_r (eqb q.needs s.needs) _ t))
-
-pub request-of-spec : {M : Type 1} → statement M
-request-of-spec = tie.close (tie.spec (λ c. search rules) (λ c. search rules) returns)
