@@ -5,7 +5,7 @@ use lib.ListN.{length, get_or, set, length-set}
 use Rattle.held.specs.Work.{cell, HasByte}
 use Rattle.held.specs.FollowCode.{followed}
 use Rattle.held.proofs.Cells.{cell_below}
-use Rattle.held.proofs.Follows.{below, follow_set, follow_new, follow-on, stops}
+use Rattle.held.proofs.Follows.{below, follow_set, follow_new, follow-on, stops_unless_on}
 use Rattle.paging.specs.Layout.{tables64}
 use Rattle.held.proofs.follow.Goals as goal
 
@@ -47,7 +47,7 @@ returns-in_default c =
     let k = c.cell_of-k.ensures in
     let new : get_or work (cell a.frames w) 0 ≡ 1 → ⊥ = λ m. c.if-work-k-eq1.false (ap (λ (k : ℕ). get_or work k 0) k ∙ m) in
     ap (λ (k : ℕ). set work k 1) k
-    ∙ sym (stops _ c.next.result (set work (cell a.frames w) 1) c.in_default.in_default-own.keys2)
+    ∙ sym (stops_unless_on _ c.next.result (set work (cell a.frames w) 1) c.in_default.not-On)
     ∙ sym (follow_new tables64 a.frames a.page a.words.now w work new c.next.result (sym c.next.ensures))
     ∙ c.loop-work.invariant.2
 

@@ -6,7 +6,7 @@ use lib.ListN.{get_or}
 use borrow.Author.Rules.{rules}
 use Rattle.held.specs.Work.{cell}
 use Rattle.held.proofs.Cells.{cell_below}
-use Rattle.held.proofs.Follows.{below, reread_unmarked, reread-set, stops}
+use Rattle.held.proofs.Follows.{below, reread_unmarked, reread-set, stops_unless_on}
 use Rattle.paging.specs.Layout.{tables64}
 use Rattle.held.proofs.reread.Goals as goal
 
@@ -23,7 +23,7 @@ pub returns-in_default : goal.returns-in_default
 returns-in_default c =
     let a = c.args in
     let m = ap (λ (k : ℕ). get_or a.work.now k 0) (sym c.cell_of-k.ensures) ∙ c.if-work-k-ne1.false in
-    sym (stops _ c.next.result a.work.now c.in_default.in_default-own.keys2)
+    sym (stops_unless_on _ c.next.result a.work.now c.in_default.not-On)
     ∙ sym (reread-set tables64 a.frames a.page a.words.now a.w a.work.now m c.next.result (sym c.next.ensures))
 
 pub follow-requires : goal.follow-requires
