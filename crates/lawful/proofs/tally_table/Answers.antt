@@ -43,8 +43,8 @@ loop-i-preserved c =
     let v = named-now (goal.at.loop-i-preserved c).After-named_by-u in
     let n = c.table_count-n.ensures in
     elim c.if-u-n.branch [
-      then-u-n w ↦ tally_hit ok inv test v (omega (arith, n, w.if-u-n.true)) w.counts-is
-    | else-u-n w ↦ tally_miss ok inv test v (omega (arith, n, w.if-u-n.false)) w.counts-is
+      | then-u-n w ↦ tally_hit ok inv test v (omega (arith, n, w.if-u-n.true)) w.counts-is
+      | else-u-n w ↦ tally_miss ok inv test v (omega (arith, n, w.if-u-n.false)) w.counts-is
     ]
 
 pub shape_of-counts : goal.shape_of-counts
