@@ -8,30 +8,30 @@ use Rattle.puzzle.specs.Buffers.{with_pairs}
 use Rattle.puzzle.specs.PartsCode.{lists, Whole}
 use Rattle.puzzle.proofs.Calls.{not_refused, pairs_below, accepted_answer}
 use Rattle.puzzle.proofs.fill.Goals as goal
-use Rattle.puzzle.proofs.fill.Goals.{In-Accepted-2}
+use Rattle.puzzle.proofs.fill.Goals.{In-Accepted}
 
 -- where the text has been read
-whole : (c : In-Accepted-2) → let a = c.args in let n = c.counts-in-Accepted-1.given.0 in let last = c.read_sections-counts.new in
+whole : (c : In-Accepted) → let a = c.args in let n = c.in-Accepted in let last = c.read_sections-counts.new in
     Whole a.text.now (lists a.map.now a.cr3s.now (replicate 16384 0) a.events.now a.questions.now)
-    (lists last.1.0 last.1.1.0 last.1.1.1.0 last.1.1.1.1.0 last.1.1.1.1.1.0)
-    n.0 n.1.0 n.1.1.0 n.1.1.1.0 n.1.1.1.1.0
+    (lists last.map last.cr3s last.pairs last.events last.questions)
+    n.frames n.processors n.n n.events n.questions
 whole c = c.read_sections-counts.ensures.read c.in-Accepted.is
 
-few-frames : (c : In-Accepted-2) → c.in-Accepted.frames ≤ 16
+few-frames : (c : In-Accepted) → c.in-Accepted.frames ≤ 16
 few-frames c =
     let k : length c.read_sections-counts.new.map ≡ length c.args.map.now = c.read_sections-counts.auto.map in
-    omega (arith, (whole c).map.ranges, k, c.requires.0.map)
+    omega (arith, (whole c).map.fits, k, c.requires.0.map)
 
 pub overflow_mul-frames : goal.overflow_mul-frames
-overflow_mul-frames c = omega (arith, few-frames (goal.at.overflow_mul-frames c).In-Accepted-2)
+overflow_mul-frames c = omega (arith, few-frames (goal.at.overflow_mul-frames c).In-Accepted)
 
 pub clear-requires : goal.clear-requires
-clear-requires c = omega (arith, few-frames (goal.at.clear-requires c).In-Accepted-2, c.requires.0.words)
+clear-requires c = omega (arith, few-frames (goal.at.clear-requires c).In-Accepted, c.requires.0.words)
 
 pub store_pairs-requires : goal.store_pairs-requires
 store_pairs-requires c =
     let k : length c.clear.new.words ≡ length c.args.words.now = c.clear.auto.words in
-    ((whole (goal.at.store_pairs-requires c).In-Accepted-2).pairs.fits, λ i h. omega (arith, pairs_below (whole (goal.at.store_pairs-requires c).In-Accepted-2) i h, few-frames (goal.at.store_pairs-requires c).In-Accepted-2, k, c.requires.0.words))
+    ((whole (goal.at.store_pairs-requires c).In-Accepted).pairs.fits, λ i h. omega (arith, pairs_below (whole (goal.at.store_pairs-requires c).In-Accepted) i h, few-frames (goal.at.store_pairs-requires c).In-Accepted, k, c.requires.0.words))
 
 pub shape_of-map-in-Refused : goal.shape_of-map-in-Refused
 shape_of-map-in-Refused c = c.read_sections-counts.auto.map
@@ -67,5 +67,5 @@ pub returns-in-Accepted : goal.returns-in-Accepted
 returns-in-Accepted c =
     let stored = c.store_pairs.ensures in
     let cleared = c.clear.ensures in
-    accepted_answer (whole (goal.at.returns-in-Accepted c).In-Accepted-2) c.args.words.now
+    accepted_answer (whole (goal.at.returns-in-Accepted c).In-Accepted) c.args.words.now
     (stored ∙ ap (with_pairs (take (c.in-Accepted.n * 2) c.read_sections-counts.new.pairs)) cleared)

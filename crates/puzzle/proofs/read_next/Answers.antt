@@ -5,10 +5,10 @@ use Rattle.puzzle.proofs.Cases.{next-by}
 use Rattle.puzzle.proofs.read_next.Goals as goal
 
 pub read-requires : goal.read-requires
-read-requires c = (c.requires.0.stands (goal.at.read-requires c).In-Read-13.given.1, c.requires.1, c.requires.2)
+read-requires c = (c.requires.0.stands c.in-Read.is, c.requires.1, c.requires.2)
 
 pub returns-in-Refused : goal.returns-in-Refused
-returns-in-Refused c = next-by (goal.at.returns-in-Refused c).In-Refused-12.given.1 refl
+returns-in-Refused c = next-by c.in-Refused.is refl
 
 pub returns-in-Read : goal.returns-in-Read
-returns-in-Read c = next-by (goal.at.returns-in-Read c).In-Read-13.given.1 c.read.ensures
+returns-in-Read c = next-by c.in-Read.is c.read.ensures

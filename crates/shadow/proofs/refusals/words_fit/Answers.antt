@@ -6,8 +6,7 @@ use native.Mathlib.Omega.{arith}
 use lib.Dec.{eqb}
 use lib.ListN.{length}
 use borrow.Author.Tests.{eq-eqb, ne_eqb, eqb-true, eqb-false}
-use Rattle.shadow.proofs.refusals.words_fit.Statement.{statement}
-use Rattle.shadow.proofs.refusals.words_fit.Tie as tie
+use Rattle.shadow.proofs.refusals.words_fit.Goals as goal
 
 quotient : (n f : ℕ) → n % 512 ≡ 0 → eqb (n / 512) f ≡ eqb n (512 * f)
 quotient n f h = go (eqb (n / 512) f) refl
@@ -16,8 +15,8 @@ quotient n f h = go (eqb (n / 512) f) refl
     go true e = let q = eqb-true (n / 512) f e in sym (eq-eqb n (512 * f) (omega arith))
     go false e = sym (ne_eqb n (512 * f) (λ q. eqb-false (n / 512) f e (omega arith)))
 
-returns : tie.Need-returns
-returns c = let a = c.before.args in sym (ne_eqb (length a.words.now) (512 * a.frames) (λ q. c.if1.true (omega arith)))
+pub returns-then-words-ne0 : goal.returns-then-words-ne0
+returns-then-words-ne0 c = let a = c.args in sym (ne_eqb (length a.words.now) (512 * a.frames) (λ q. c.if-words-ne0.true (omega arith)))
 
-pub words-fit-spec : {M : Type 1} → statement M
-words-fit-spec = tie.close (tie.spec returns (λ c. quotient (length c.before.args.words.now) c.before.args.frames c.if1.false))
+pub returns : goal.returns
+returns c = quotient (length c.args.words.now) c.args.frames c.if-words-ne0.false
