@@ -1,7 +1,6 @@
 -- The entry at the index of the level.
 use mathlib.Core.Path.{ap, ◌∙◌}
 use native.Mathlib.Omega.{arith}
-use borrow.Author.Rules.{rules}
 use Rattle.paging.specs.Layout.{tables64, get}
 use Rattle.paging.proofs.Indices.{index_small}
 use Rattle.guest.proofs.guest_entry.Goals as goal

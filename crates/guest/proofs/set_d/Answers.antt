@@ -3,7 +3,6 @@ use mathlib.Core.Path.{◌≡◌, ap, ◌∙◌}
 use Prim.Native.Nat.{ℕ}
 use native.Mathlib.Omega.{arith}
 use borrow.Author.Tests.{eq-eqb, ne_eqb}
-use borrow.Author.Rules.{rules}
 use Rattle.paging.specs.Layout.{tables64, bit, get, put, with_bit}
 use Rattle.paging.proofs.Indices.{index_small}
 use Rattle.guest.specs.GuestWalk.{dirtied}

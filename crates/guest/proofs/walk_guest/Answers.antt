@@ -1,14 +1,11 @@
 use mathlib.Core.Path.{◌≡◌, refl, sym, ap, ap₂, ◌∙◌}
 use mathlib.Core.List.{List}
-use Prim.Native.Nat.{ℕ, ◌-◌, ◌≤◌, ◌<◌, ◌^◌}
+use Prim.Native.Nat.{ℕ, ◌-◌}
 use native.Mathlib.Omega.{arith}
-use lib.ListN.{length}
-use borrow.Author.Rules.{rules}
 use Rattle.paging.specs.declared.Walk.{Walk}
 use Rattle.paging.specs.declared.Step.{Step}
 use Rattle.paging.specs.declared.Step.TheVariants.{On, Absent, Beyond, Complete}
 use Rattle.paging.specs.Layout.{tables64, get, put, index, rights_of, with_a}
-use Rattle.paging.specs.Walk.{start, step}
 use Rattle.paging.proofs.Indices.{index_small}
 use Rattle.paging.proofs.Rights.{meet_small}
 use Rattle.paging.proofs.Steps.{Goes, goes}

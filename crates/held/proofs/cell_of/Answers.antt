@@ -1,6 +1,5 @@
 -- The row is below 5×G, so nothing wraps.
 use native.Mathlib.Omega.{arith}
-use borrow.Author.Rules.{rules}
 use Rattle.held.proofs.Cells.{row_below}
 use Rattle.held.proofs.cell_of.Goals as goal
 

@@ -1,7 +1,7 @@
 use mathlib.Core.Path.{◌≡◌, refl, sym, ◌∙◌, ap}
-use Prim.Native.Nat.{ℕ, ◌+◌, ◌-◌, ◌≤◌}
+use Prim.Native.Nat.{ℕ, ◌+◌, ◌-◌}
 use native.Mathlib.Omega.{arith}
-use lib.ListN.{length, set, length-set}
+use lib.ListN.{set, length-set}
 use Rattle.held.specs.FollowCode.{cleared}
 use Rattle.held.proofs.Follows.{clear_turn, clear_none}
 use Rattle.held.proofs.clear.Goals as goal

@@ -1,10 +1,8 @@
 -- What is left to clear says the same at every turn.
-use mathlib.Core.Path.{◌≡◌, refl, sym, ◌∙◌, ap}
-use Prim.Native.Nat.{ℕ, ◌+◌, ◌-◌, ◌≤◌}
-use native.Mathlib.Omega.{arith}
-use lib.ListN.{length, set, length-set}
+use mathlib.Core.Path.{◌≡◌}
+use Prim.Native.Nat.{◌-◌, ◌≤◌}
+use lib.ListN.{length}
 use Rattle.held.specs.FollowCode.{cleared}
-use Rattle.held.proofs.Follows.{clear_turn, clear_none}
 use Rattle.held.proofs.clear.Given as goal
 
 abbrev pub invariant-loop-k : goal.invariant-loop-k

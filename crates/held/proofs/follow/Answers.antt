@@ -1,8 +1,8 @@
 use mathlib.Core.Path.{◌≡◌, refl, sym, ◌∙◌, ap}
 use Prim.Native.Nat.{ℕ}
 use native.Mathlib.Omega.{arith}
-use lib.ListN.{length, get_or, set, length-set}
-use Rattle.held.specs.Work.{cell, HasByte}
+use lib.ListN.{get_or, set, length-set}
+use Rattle.held.specs.Work.{cell}
 use Rattle.held.specs.FollowCode.{followed}
 use Rattle.held.proofs.Cells.{cell_below}
 use Rattle.held.proofs.Follows.{below, follow_set, follow_new, follow-on, stops_unless_on}

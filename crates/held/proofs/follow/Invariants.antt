@@ -1,12 +1,8 @@
 -- What is left to follow says the same at every turn; the level falls.
-use mathlib.Core.Path.{◌≡◌, refl, sym, ◌∙◌, ap}
-use Prim.Native.Nat.{ℕ}
-use native.Mathlib.Omega.{arith}
-use lib.ListN.{length, get_or, set, length-set}
-use Rattle.held.specs.Work.{cell, HasByte}
+use mathlib.Core.Path.{◌≡◌}
+use lib.ListN.{length}
+use Rattle.held.specs.Work.{HasByte}
 use Rattle.held.specs.FollowCode.{followed}
-use Rattle.held.proofs.Cells.{cell_below}
-use Rattle.held.proofs.Follows.{below, follow_set, follow_new, follow-on, stops}
 use Rattle.paging.specs.Layout.{tables64}
 use Rattle.held.proofs.follow.Given as goal
 

@@ -3,7 +3,6 @@ use mathlib.Core.Path.{◌∙◌, sym, ap}
 use Prim.Native.Nat.{ℕ, ◌+◌, ◌*◌}
 use native.Mathlib.Omega.{arith}
 use lib.ListN.{get_or}
-use borrow.Author.Rules.{rules}
 use Rattle.paging.specs.Layout.{tables64, frame_words, get}
 use Rattle.paging.specs.Walk.{step}
 use Rattle.paging.proofs.Steps.{step_complete}

@@ -3,7 +3,6 @@ use mathlib.Core.Path.{◌≡◌, sym, ◌∙◌, ap}
 use Prim.Native.Nat.{ℕ}
 use native.Mathlib.Omega.{arith}
 use lib.ListN.{get_or}
-use borrow.Author.Rules.{rules}
 use Rattle.held.specs.Work.{cell}
 use Rattle.held.proofs.Cells.{cell_below}
 use Rattle.held.proofs.Follows.{below, reread_unmarked, reread-set, stops_unless_on}

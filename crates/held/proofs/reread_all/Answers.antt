@@ -1,12 +1,9 @@
 use mathlib.Core.Path.{◌≡◌, refl, sym, ◌∙◌, ap}
-use Prim.Native.Nat.{ℕ, ◌-◌, ◌≤◌}
+use Prim.Native.Nat.{ℕ}
 use native.Mathlib.Omega.{arith}
-use mathlib.Core.List.{List}
-use lib.ListN.{length}
 use Rattle.paging.specs.Numbers.{each}
 use Rattle.paging.proofs.Numbers.{each_none, each_more}
-use Rattle.held.specs.FollowCode.{walk_of, reread, reread_all}
-use Rattle.paging.specs.Layout.{tables64}
+use Rattle.held.specs.FollowCode.{reread_all}
 use Rattle.held.proofs.reread_all.Invariants.{turn}
 use Rattle.held.proofs.reread_all.Goals as goal
 

@@ -1,12 +1,10 @@
 -- The walks with rights below r have been read again.
-use mathlib.Core.Path.{◌≡◌, refl, sym, ◌∙◌, ap}
+use mathlib.Core.Path.{◌≡◌}
 use Prim.Native.Nat.{ℕ, ◌-◌, ◌≤◌}
-use native.Mathlib.Omega.{arith}
 use mathlib.Core.List.{List}
 use lib.ListN.{length}
 use Rattle.paging.specs.Numbers.{each}
-use Rattle.paging.proofs.Numbers.{each_none, each_more}
-use Rattle.held.specs.FollowCode.{walk_of, reread, reread_all}
+use Rattle.held.specs.FollowCode.{walk_of, reread}
 use Rattle.paging.specs.Layout.{tables64}
 use Rattle.held.proofs.reread_all.Given as goal
 

@@ -1,6 +1,5 @@
 -- A page whose entry lies in another word is not touched.
 use mathlib.Core.Path.{sym, ◌∙◌}
-use borrow.Author.Rules.{rules}
 use Rattle.held.proofs.Follows.{reread_elsewhere, reread-here, here_64, there_64}
 use Rattle.paging.specs.Layout.{tables64}
 use Rattle.held.proofs.reread_at.Goals as goal

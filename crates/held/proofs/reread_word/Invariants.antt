@@ -1,10 +1,8 @@
 -- What is left, the levels from `level` down, says the same at every turn.
-use mathlib.Core.Path.{◌≡◌, refl, sym, ◌∙◌, ap}
-use Prim.Native.Nat.{◌≤◌, ◌-◌}
-use native.Mathlib.Omega.{arith}
+use mathlib.Core.Path.{◌≡◌}
+use Prim.Native.Nat.{◌≤◌}
 use lib.ListN.{length}
 use Rattle.held.specs.FollowCode.{reread_word}
-use Rattle.held.proofs.Follows.{reread-turn, reread_done}
 use Rattle.paging.specs.Layout.{tables64}
 use Rattle.held.proofs.reread_word.Given as goal
 

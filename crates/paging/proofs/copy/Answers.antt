@@ -1,7 +1,6 @@
-use mathlib.Core.Path.{◌≡◌, refl}
-use Prim.Native.Nat.{◌-◌, ◌≤◌}
+use mathlib.Core.Path.{refl}
 use native.Mathlib.Omega.{arith}
-use lib.ListN.{length, take, length-set}
+use lib.ListN.{length-set}
 use Rattle.paging.proofs.Copies.{copy_more, copy_all}
 use Rattle.paging.proofs.copy.Goals as goal
 

@@ -1,9 +1,7 @@
 -- At every turn the words passed are those of the start.
-use mathlib.Core.Path.{◌≡◌, refl}
+use mathlib.Core.Path.{◌≡◌}
 use Prim.Native.Nat.{◌-◌, ◌≤◌}
-use native.Mathlib.Omega.{arith}
-use lib.ListN.{length, take, length-set}
-use Rattle.paging.proofs.Copies.{copy_more, copy_all}
+use lib.ListN.{length, take}
 use Rattle.paging.proofs.copy.Given as goal
 
 abbrev pub invariant-loop-i : goal.invariant-loop-i

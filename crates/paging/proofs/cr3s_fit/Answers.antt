@@ -1,13 +1,7 @@
-use mathlib.Core.Bool.{Bool}
-use mathlib.Core.List.{List}
-use Prim.Native.Nat.{ℕ, ◌-◌}
 use native.Mathlib.Omega.{arith}
-use lib.Dec.{ltb}
-use lib.ListN.{length, get_or}
 use borrow.Author.Tests.{lt-ltb, le-ltb}
 use Rattle.paging.specs.Frame.{cr3s_fit}
-use Rattle.paging.proofs.Loops.{Passed, passed_none, passed_more, passed_stop, passed-all}
-use Rattle.paging.proofs.cr3s_fit.Invariants.{fits}
+use Rattle.paging.proofs.Loops.{passed_none, passed_more, passed_stop, passed-all}
 use Rattle.paging.proofs.cr3s_fit.Goals as goal
 
 pub loop-p-init : goal.loop-p-init

@@ -2,12 +2,9 @@
 use mathlib.Core.Bool.{Bool}
 use mathlib.Core.List.{List}
 use Prim.Native.Nat.{ℕ, ◌-◌}
-use native.Mathlib.Omega.{arith}
 use lib.Dec.{ltb}
 use lib.ListN.{length, get_or}
-use borrow.Author.Tests.{lt-ltb, le-ltb}
-use Rattle.paging.specs.Frame.{cr3s_fit}
-use Rattle.paging.proofs.Loops.{Passed, passed_none, passed_more, passed_stop, passed-all}
+use Rattle.paging.proofs.Loops.{Passed}
 use Rattle.paging.proofs.cr3s_fit.Given as goal
 
 abbrev pub fits : ℕ → List ℕ → ℕ → Bool

@@ -2,7 +2,6 @@
 use mathlib.Core.Path.{refl, sym}
 use lib.ListN.{get_or-eq_default}
 use Rattle.paging.specs.Layout.{get}
-use borrow.Author.Rules.{rules}
 use Rattle.paging.proofs.entry_at.Goals as goal
 
 pub returns-then-at-words : goal.returns-then-at-words

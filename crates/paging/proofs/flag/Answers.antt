@@ -1,6 +1,5 @@
 use lib.Bits.{and_mask}
 use Prim.Native.Nat.{◌/◌, ◌^◌}
-use borrow.Author.Rules.{rules}
 use Rattle.paging.proofs.flag.Goals as goal
 
 -- src/lib.rt:63:1

@@ -1,7 +1,6 @@
 -- A guest frame past the end of the map has host frame 0 by default.
 use mathlib.Core.Path.{sym, ap}
 use lib.ListN.{get_or-eq_default}
-use borrow.Author.Rules.{rules}
 use Rattle.paging.specs.Frame.{host}
 use Rattle.paging.proofs.host_of.Goals as goal
 

@@ -1,7 +1,6 @@
 use Rattle.paging.specs.Layout.{index}
 use lib.Bits.{and_mask}
 use Prim.Native.Nat.{◌-◌, ◌*◌, ◌/◌, ◌^◌}
-use borrow.Author.Rules.{rules}
 use Rattle.paging.proofs.index_of.Goals as goal
 
 -- src/lib.rt:44:1

@@ -1,13 +1,8 @@
 use mathlib.Core.Path.{ap}
-use mathlib.Core.Bool.{Bool, not}
-use mathlib.Core.List.{List}
-use Prim.Native.Nat.{ℕ, ◌-◌}
+use mathlib.Core.Bool.{not}
 use native.Mathlib.Omega.{arith}
-use lib.Dec.{eqb}
-use lib.ListN.{get_or}
 use borrow.Author.Tests.{eq-eqb, ne_eqb}
-use Rattle.paging.proofs.Loops.{Passed, passed_none, passed_more, passed_stop, passed-all}
-use Rattle.paging.proofs.is_new.Invariants.{differs}
+use Rattle.paging.proofs.Loops.{passed_none, passed_more, passed_stop, passed-all}
 use Rattle.paging.proofs.is_new.Goals as goal
 
 pub loop-j-init : goal.loop-j-init

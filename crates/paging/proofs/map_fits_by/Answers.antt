@@ -1,16 +1,11 @@
 use mathlib.Core.Path.{sym, ◌∙◌}
-use mathlib.Core.Bool.{Bool, ◌&&◌}
-use mathlib.Core.List.{List}
-use Prim.Native.Nat.{ℕ, ◌-◌, ◌^◌}
+use Prim.Native.Nat.{◌^◌}
 use native.Mathlib.Omega.{arith}
-use lib.Dec.{ltb}
-use lib.ListN.{length, get_or}
-use borrow.Author.Tests.{lt-ltb, le-ltb, not-true, not-false}
-use Rattle.paging.specs.NotesCode.{Noted}
-use Rattle.paging.specs.Frame.{is_new, map_fits}
-use Rattle.paging.proofs.Loops.{Passed, passed_none, passed_more, passed_stop, passed-all}
+use lib.ListN.{get_or}
+use borrow.Author.Tests.{lt-ltb, le-ltb}
+use Rattle.paging.specs.Frame.{map_fits}
+use Rattle.paging.proofs.Loops.{passed_none, passed_more, passed_stop, passed-all}
 use Rattle.paging.proofs.Notes.{noted_more}
-use Rattle.paging.proofs.map_fits_by.Invariants.{fits}
 use Rattle.paging.proofs.map_fits_by.Goals as goal
 
 pub loop-i-init : goal.loop-i-init

@@ -1,16 +1,12 @@
 -- Each frame is below the limit and new; the loop has passed, and noted, those below i.
-use mathlib.Core.Path.{sym, ◌∙◌}
 use mathlib.Core.Bool.{Bool, ◌&&◌}
 use mathlib.Core.List.{List}
 use Prim.Native.Nat.{ℕ, ◌-◌, ◌^◌}
-use native.Mathlib.Omega.{arith}
 use lib.Dec.{ltb}
 use lib.ListN.{length, get_or}
-use borrow.Author.Tests.{lt-ltb, le-ltb, not-true, not-false}
 use Rattle.paging.specs.NotesCode.{Noted}
-use Rattle.paging.specs.Frame.{is_new, map_fits}
-use Rattle.paging.proofs.Loops.{Passed, passed_none, passed_more, passed_stop, passed-all}
-use Rattle.paging.proofs.Notes.{noted_more}
+use Rattle.paging.specs.Frame.{is_new}
+use Rattle.paging.proofs.Loops.{Passed}
 use Rattle.paging.proofs.map_fits_by.Given as goal
 
 abbrev pub fits : List ℕ → ℕ → Bool

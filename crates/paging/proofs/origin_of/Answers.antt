@@ -1,8 +1,5 @@
-use mathlib.Core.Path.{◌≡◌, refl, sym, ◌∙◌}
-use Prim.Native.Nat.{◌≤◌, ◌-◌}
+use mathlib.Core.Path.{refl, sym, ◌∙◌}
 use native.Mathlib.Omega.{arith}
-use lib.ListN.{length, drop}
-use Rattle.paging.specs.Frame.{origin_from, origin_of}
 use Rattle.paging.proofs.Frames.{origin_here, origin_next, origin_end}
 use Rattle.paging.proofs.origin_of.Goals as goal
 

@@ -1,10 +1,8 @@
 -- The search over what is left says the same at every turn.
-use mathlib.Core.Path.{◌≡◌, refl, sym, ◌∙◌}
+use mathlib.Core.Path.{◌≡◌}
 use Prim.Native.Nat.{◌≤◌, ◌-◌}
-use native.Mathlib.Omega.{arith}
 use lib.ListN.{length, drop}
 use Rattle.paging.specs.Frame.{origin_from, origin_of}
-use Rattle.paging.proofs.Frames.{origin_here, origin_next, origin_end}
 use Rattle.paging.proofs.origin_of.Given as goal
 
 abbrev pub invariant-loop-i : goal.invariant-loop-i

@@ -3,7 +3,6 @@ use mathlib.Core.Path.{◌≡◌, refl}
 use native.Mathlib.Omega.{arith}
 use Prim.Native.Nat.{◌-◌}
 use lib.Bits.{bit_xor}
-use borrow.Author.Rules.{rules}
 use Rattle.paging.specs.Layout.{rights_of}
 use Rattle.paging.proofs.Bits.{put_field, flip_bit}
 use Rattle.paging.proofs.rights_of.Goals as goal

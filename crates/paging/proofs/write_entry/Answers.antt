@@ -2,7 +2,6 @@
 use mathlib.Core.Path.{refl, sym}
 use lib.Seq.{set_out}
 use Rattle.paging.specs.Layout.{put}
-use borrow.Author.Rules.{rules}
 use Rattle.paging.proofs.write_entry.Goals as goal
 
 pub returns-then-at-words : goal.returns-then-at-words

@@ -1,8 +1,8 @@
 use mathlib.Core.Path.{◌≡◌, refl, ap, ◌∙◌}
 use mathlib.Core.List.{List, [], ◌∷◌, ◌++◌}
-use Prim.Native.Nat.{ℕ, ◌-◌, ◌≤◌, ◌+◌}
+use Prim.Native.Nat.{ℕ, ◌≤◌}
 use native.Mathlib.Omega.{arith}
-use lib.ListN.{length, set, drop, replicate, length-set, drop_of_length-le}
+use lib.ListN.{length, set, replicate, length-set, drop_of_length-le}
 use borrow.Author.Fill.{fill_none, fill_more}
 use Rattle.paging.proofs.zero.Goals as goal
 

@@ -1,10 +1,8 @@
 -- The numbers below i are 0, the others as they were.
-use mathlib.Core.Path.{◌≡◌, refl, ap, ◌∙◌}
-use mathlib.Core.List.{List, [], ◌∷◌, ◌++◌}
-use Prim.Native.Nat.{ℕ, ◌-◌, ◌≤◌, ◌+◌}
-use native.Mathlib.Omega.{arith}
-use lib.ListN.{length, set, drop, replicate, length-set, drop_of_length-le}
-use borrow.Author.Fill.{fill_none, fill_more}
+use mathlib.Core.Path.{◌≡◌}
+use mathlib.Core.List.{◌++◌}
+use Prim.Native.Nat.{◌-◌, ◌≤◌}
+use lib.ListN.{length, drop, replicate}
 use Rattle.paging.proofs.zero.Given as goal
 
 abbrev pub invariant-loop-i : goal.invariant-loop-i

@@ -4,7 +4,6 @@ use mathlib.Core.Logic.{inl, inr}
 use mathlib.Core.Bool.{Bool, cond}
 use Prim.Native.Nat.{ℕ}
 use lib.Dec.{ltb}
-use borrow.Author.Rules.{rules}
 use Rattle.rules.specs.History.{setup64}
 use Rattle.rules.proofs.Refusals.{known, too_many, of_store, of_invlpg, of_cr3, of_access, of_begin, of_slot, of_unknown}
 use Rattle.rules.proofs.event_refusal.Goals as goal

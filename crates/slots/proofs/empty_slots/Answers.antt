@@ -1,7 +1,6 @@
-use mathlib.Core.Path.{◌≡◌, refl, sym, ap, ◌∙◌}
-use Prim.Native.Nat.{ℕ, ◌-◌, ◌≤◌}
+use mathlib.Core.Path.{refl, sym, ap, ◌∙◌}
+use Prim.Native.Nat.{ℕ}
 use native.Mathlib.Omega.{arith}
-use lib.ListN.{length}
 use Rattle.paging.specs.Numbers.{each}
 use Rattle.slots.specs.Slots.{emptied, empty_slots}
 use Rattle.paging.proofs.Numbers.{each_none, each_more}

@@ -1,11 +1,9 @@
 -- The slots below k are done.
-use mathlib.Core.Path.{◌≡◌, refl, sym, ap, ◌∙◌}
-use Prim.Native.Nat.{ℕ, ◌-◌, ◌≤◌}
-use native.Mathlib.Omega.{arith}
+use mathlib.Core.Path.{◌≡◌}
+use Prim.Native.Nat.{◌-◌, ◌≤◌}
 use lib.ListN.{length}
 use Rattle.paging.specs.Numbers.{each}
-use Rattle.slots.specs.Slots.{flushed, flush}
-use Rattle.paging.proofs.Numbers.{each_none, each_more}
+use Rattle.slots.specs.Slots.{flushed}
 use Rattle.slots.proofs.flush.Given as goal
 
 abbrev pub invariant-loop-k : goal.invariant-loop-k

@@ -2,8 +2,6 @@
 use mathlib.Core.Path.{sym, ap, ◌∙◌}
 use Prim.Native.Nat.{ℕ, ◌+◌}
 use lib.ListN.{get_or}
-use borrow.Author.Rules.{rules}
-use Rattle.paging.proofs.Counts.{by_cases}
 use Rattle.slots.proofs.Flushes.{flush_empty, flush_other, flush-own, flush_partial}
 use Rattle.slots.proofs.flush_slot.Goals as goal
 use Rattle.slots.proofs.flush_slot.Goals.{then-mark-eq1+else-slots-at, else-mark-eq1}

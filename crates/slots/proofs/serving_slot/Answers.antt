@@ -1,7 +1,6 @@
 use mathlib.Core.Path.{◌≡◌, refl, sym, ◌∙◌}
-use Prim.Native.Nat.{◌+◌, ◌-◌, ◌≤◌}
+use Prim.Native.Nat.{◌+◌, ◌-◌}
 use native.Mathlib.Omega.{arith}
-use Rattle.paging.specs.Numbers.{first_from}
 use Rattle.slots.specs.Slots.{slot_serves, serving_slot}
 use Rattle.paging.proofs.Counts.{first-here, first_on, first_none}
 use Rattle.slots.proofs.serving_slot.Goals as goal

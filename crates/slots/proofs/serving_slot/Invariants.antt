@@ -1,10 +1,8 @@
 -- The search over the slots that are left says the same at every turn.
-use mathlib.Core.Path.{◌≡◌, refl, sym, ◌∙◌}
-use Prim.Native.Nat.{◌+◌, ◌-◌, ◌≤◌}
-use native.Mathlib.Omega.{arith}
+use mathlib.Core.Path.{◌≡◌}
+use Prim.Native.Nat.{◌-◌, ◌≤◌}
 use Rattle.paging.specs.Numbers.{first_from}
 use Rattle.slots.specs.Slots.{slot_serves, serving_slot}
-use Rattle.paging.proofs.Counts.{first-here, first_on, first_none}
 use Rattle.slots.proofs.serving_slot.Given as goal
 
 abbrev pub invariant-loop-k : goal.invariant-loop-k

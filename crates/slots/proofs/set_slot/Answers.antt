@@ -3,7 +3,6 @@ use mathlib.Core.Path.{ap}
 use Prim.Native.Nat.{ℕ, ◌+◌, ◌*◌}
 use native.Mathlib.Omega.{arith}
 use lib.ListN.{set, length-set}
-use borrow.Author.Rules.{rules}
 use Rattle.slots.proofs.set_slot.Goals as goal
 
 pub bounds-slots-at-2 : goal.bounds-slots-at-2

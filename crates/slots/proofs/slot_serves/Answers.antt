@@ -3,7 +3,6 @@ use mathlib.Core.Path.{sym, ap, ◌∙◌}
 use Prim.Native.Nat.{ℕ, ◌+◌, ◌%◌}
 use lib.ListN.{get_or}
 use borrow.Author.Tests.{eq-eqb, ne_eqb}
-use borrow.Author.Rules.{rules}
 use Rattle.paging.specs.Request.{enough}
 use Rattle.slots.specs.Slots.{mark_of, page_in}
 use Rattle.slots.proofs.slot_serves.Goals as goal

@@ -1,4 +1,4 @@
-use Prim.Native.Nat.{ℕ, ◌<◌, ◌-◌}
+use Prim.Native.Nat.{ℕ, ◌-◌}
 use mathlib.Core.Path.{refl, sym, ap, ◌∙◌}
 use mathlib.Core.List.{List}
 use native.Mathlib.Omega.{arith}
@@ -7,7 +7,7 @@ use Rattle.paging.specs.Layout.{tables64, put}
 use Rattle.tables.specs.State.{shadow_of}
 use Rattle.tables.proofs.Names.{few}
 use Rattle.paging.proofs.Numbers.{each_none}
-use Rattle.tables.proofs.Frees.{Turned, turn, cut_freed, cut-kept, table_none, table-some}
+use Rattle.tables.proofs.Frees.{turn, cut_freed, cut-kept, table_none, table-some}
 use Rattle.tables.proofs.+free_table.Goals as goal
 use Rattle.tables.proofs.+free_table.Goals.{then-u-n, else-u-n}
 

@@ -3,7 +3,6 @@ use mathlib.Core.Path.{sym, ap, ap₂, ◌∙◌}
 use native.Mathlib.Omega.{arith}
 use lib.Dec.{eqb}
 use borrow.Author.Tests.{eq-eqb, ne_eqb, lt-ltb, le-ltb}
-use borrow.Author.Rules.{rules}
 use Rattle.paging.specs.declared.Guest.{Guest}
 use Rattle.paging.specs.Layout.{tables64, rights_of}
 use Rattle.tables.specs.State.{machine64, table_count, named, shadows}

@@ -1,18 +1,9 @@
 -- What is left to build says the same at every turn, and enough tables are left for it.
-use mathlib.Core.Path.{◌≡◌, refl, ap, ◌∙◌}
-use mathlib.Core.List.{List}
-use Prim.Native.Nat.{ℕ, ◌-◌, ◌+◌, ◌≤◌}
-use native.Mathlib.Omega.{arith}
+use mathlib.Core.Path.{◌≡◌}
+use Prim.Native.Nat.{◌≤◌}
 use lib.ListN.{length}
-use Rattle.paging.specs.Frame.{guest}
-use Rattle.paging.specs.Layout.{tables64, frame_of}
-use Rattle.paging.proofs.Indices.{index_small}
 use Rattle.tables.specs.State.{machine64, shadow_of}
-use Rattle.tables.specs.Steps.{Settled, settled_at, taken, free_count, hang_next, build}
-use Rattle.tables.proofs.Names.{few, frame_small}
-use Rattle.tables.proofs.Takes.{taken_may, hang-count}
-use Rattle.tables.proofs.Fills.{build-end, build-on}
-use Rattle.guest.specs.GuestWalk.{guest_entry}
+use Rattle.tables.specs.Steps.{free_count, build}
 use Rattle.tables.specs.SizesCode.{SpotFits}
 use Rattle.tables.proofs.build_path.Given as goal
 

@@ -1,11 +1,11 @@
-use mathlib.Core.Path.{◌≡◌, sym, ap, ◌∙◌}
-use Prim.Native.Nat.{ℕ, ◌-◌, ◌≤◌}
+use mathlib.Core.Path.{sym, ap, ◌∙◌}
+use Prim.Native.Nat.{ℕ}
 use native.Mathlib.Omega.{arith}
 use Rattle.paging.specs.Numbers.{count}
 use Rattle.tables.specs.State.{machine64}
 use Rattle.tables.specs.Steps.{may_take, free_count}
 use Rattle.tables.proofs.Names.{few}
-use Rattle.paging.proofs.Counts.{by_cases, sum_none, count_hit, count_miss, count_small}
+use Rattle.paging.proofs.Counts.{sum_none, count_hit, count_miss, count_small}
 use Rattle.tables.proofs.count_free.Goals as goal
 use Rattle.tables.proofs.count_free.Goals.{then-may_take, else-may_take}
 

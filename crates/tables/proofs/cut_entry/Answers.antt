@@ -1,5 +1,4 @@
 -- The two ways out are the two cases of a cut.
-use borrow.Author.Rules.{rules}
 use Rattle.tables.proofs.Frees.{cut_freed, cut-kept}
 use Rattle.tables.proofs.cut_entry.Goals as goal
 

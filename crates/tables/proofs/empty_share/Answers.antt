@@ -1,7 +1,6 @@
-use mathlib.Core.Path.{◌≡◌, refl, sym, ap, ◌∙◌}
-use Prim.Native.Nat.{ℕ, ◌-◌, ◌≤◌}
+use mathlib.Core.Path.{refl, sym, ap, ◌∙◌}
+use Prim.Native.Nat.{ℕ}
 use native.Mathlib.Omega.{arith}
-use lib.ListN.{length}
 use Rattle.paging.specs.Numbers.{each}
 use Rattle.tables.specs.State.{machine64, shadow_of}
 use Rattle.tables.specs.Steps.{empty_own, empty_share}

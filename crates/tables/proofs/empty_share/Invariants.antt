@@ -1,13 +1,10 @@
 -- The tables below t are done.
-use mathlib.Core.Path.{◌≡◌, refl, sym, ap, ◌∙◌}
-use Prim.Native.Nat.{ℕ, ◌-◌, ◌≤◌}
-use native.Mathlib.Omega.{arith}
+use mathlib.Core.Path.{◌≡◌}
+use Prim.Native.Nat.{◌-◌, ◌≤◌}
 use lib.ListN.{length}
 use Rattle.paging.specs.Numbers.{each}
 use Rattle.tables.specs.State.{machine64, shadow_of}
-use Rattle.tables.specs.Steps.{empty_own, empty_share}
-use Rattle.tables.proofs.Names.{few}
-use Rattle.paging.proofs.Numbers.{each_none, each_more}
+use Rattle.tables.specs.Steps.{empty_own}
 use Rattle.tables.proofs.empty_share.Given as goal
 
 abbrev pub invariant-loop-t : goal.invariant-loop-t

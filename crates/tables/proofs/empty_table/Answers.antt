@@ -4,7 +4,6 @@ use mathlib.Core.List.{List}
 use Prim.Native.Nat.{ℕ}
 use native.Mathlib.Omega.{arith}
 use borrow.Author.Tests.{eq-eqb, ne_eqb}
-use borrow.Author.Rules.{rules}
 use Rattle.tables.specs.State.{machine64, shadow_of, owner_of, root_of}
 use Rattle.tables.proofs.Names.{few}
 use Rattle.tables.proofs.empty_table.Goals as goal

@@ -1,7 +1,6 @@
 -- The table that is taken is hung below the one that stands.
 use Prim.Native.Nat.{◌+◌}
 use native.Mathlib.Omega.{arith}
-use borrow.Author.Rules.{rules}
 use Rattle.paging.specs.Layout.{tables64}
 use Rattle.paging.proofs.Indices.{index_small}
 use Rattle.paging.proofs.Rights.{rights_small}

@@ -1,7 +1,6 @@
 -- One record and one entry.
 use mathlib.Core.Path.{ap, ap₂, ◌∙◌}
 use native.Mathlib.Omega.{arith}
-use borrow.Author.Rules.{rules}
 use Rattle.paging.specs.Layout.{tables64, put}
 use Rattle.tables.specs.State.{shadow_of}
 use Rattle.tables.proofs.Names.{few}

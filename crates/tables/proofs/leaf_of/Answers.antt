@@ -2,7 +2,6 @@
 use mathlib.Core.Path.{◌≡◌, ap, ap₂, ◌∙◌}
 use Prim.Native.Nat.{ℕ, ◌+◌, ◌%◌}
 use native.Mathlib.Omega.{arith}
-use borrow.Author.Rules.{rules}
 use Rattle.paging.specs.declared.Host.{Host}
 use Rattle.paging.specs.Frame.{guest, host_of}
 use Rattle.paging.specs.Layout.{tables64, bit, compose}

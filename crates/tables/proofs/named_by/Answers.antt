@@ -2,8 +2,6 @@
 use mathlib.Core.Path.{sym, ap, ◌∙◌}
 use Prim.Native.Nat.{ℕ, ◌-◌}
 use native.Mathlib.Omega.{arith}
-use borrow.Author.Tests.{not-true, not-false}
-use borrow.Author.Rules.{rules}
 use Rattle.tables.specs.State.{machine64}
 use Rattle.tables.proofs.Names.{named_absent, named_low, named_past, named-on}
 use Rattle.tables.proofs.named_by.Goals as goal

@@ -1,12 +1,9 @@
 -- The search over the tables that are left says the same at every turn.
-use mathlib.Core.Path.{◌≡◌, sym, ap, ◌∙◌}
-use Prim.Native.Nat.{ℕ, ◌+◌, ◌-◌, ◌≤◌}
-use native.Mathlib.Omega.{arith}
+use mathlib.Core.Path.{◌≡◌}
+use Prim.Native.Nat.{◌-◌, ◌≤◌}
 use Rattle.paging.specs.Numbers.{first_from}
 use Rattle.tables.specs.State.{machine64}
 use Rattle.tables.specs.Steps.{may_take, taken}
-use Rattle.tables.proofs.Names.{few}
-use Rattle.paging.proofs.Counts.{first-here, first_on, first_none}
 use Rattle.tables.proofs.next_free.Given as goal
 
 abbrev pub invariant-loop-t : goal.invariant-loop-t

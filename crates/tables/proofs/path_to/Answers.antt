@@ -1,11 +1,11 @@
 use mathlib.Core.Path.{◌≡◌, ap, ◌∙◌}
-use Prim.Native.Nat.{ℕ, ◌-◌, ◌≤◌, ◌<◌}
+use Prim.Native.Nat.{ℕ, ◌-◌}
 use native.Mathlib.Omega.{arith}
 use Rattle.paging.specs.Layout.{tables64, get, rights_of}
 use Rattle.paging.proofs.Indices.{index_small}
 use Rattle.paging.proofs.Rights.{meet_small}
 use Rattle.tables.specs.declared.Path.{Path}
-use Rattle.tables.specs.State.{machine64, down, next_entry, descend, path_to}
+use Rattle.tables.specs.State.{machine64, down, next_entry, descend}
 use Rattle.tables.proofs.Names.{few, root_small, named_small}
 use Rattle.tables.proofs.Paths.{descend-on, descend-end}
 use Rattle.tables.proofs.path_to.Goals as goal

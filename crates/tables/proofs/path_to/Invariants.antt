@@ -1,14 +1,7 @@
 -- The path that is left to go says the same at every turn; the measure is the level.
-use mathlib.Core.Path.{◌≡◌, ap, ◌∙◌}
-use Prim.Native.Nat.{ℕ, ◌-◌, ◌≤◌, ◌<◌}
-use native.Mathlib.Omega.{arith}
-use Rattle.paging.specs.Layout.{tables64, get, rights_of}
-use Rattle.paging.proofs.Indices.{index_small}
-use Rattle.paging.proofs.Rights.{meet_small}
-use Rattle.tables.specs.declared.Path.{Path}
-use Rattle.tables.specs.State.{machine64, down, next_entry, descend, path_to}
-use Rattle.tables.proofs.Names.{few, root_small, named_small}
-use Rattle.tables.proofs.Paths.{descend-on, descend-end}
+use mathlib.Core.Path.{◌≡◌}
+use Prim.Native.Nat.{◌-◌, ◌≤◌, ◌<◌}
+use Rattle.tables.specs.State.{machine64, descend, path_to}
 use Rattle.tables.proofs.path_to.Given as goal
 
 abbrev pub invariant-loop-w : goal.invariant-loop-w

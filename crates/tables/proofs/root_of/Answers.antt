@@ -1,6 +1,5 @@
 -- A root is one of the tables, so its number fits.
 use native.Mathlib.Omega.{arith}
-use borrow.Author.Rules.{rules}
 use Rattle.tables.proofs.Names.{root_small}
 use Rattle.tables.proofs.root_of.Goals as goal
 

@@ -1,15 +1,11 @@
-use mathlib.Core.Path.{◌≡◌, refl, sym, ap, ◌∙◌}
-use Prim.Native.Nat.{◌-◌, ◌+◌}
+use mathlib.Core.Path.{refl, sym, ap, ◌∙◌}
+use Prim.Native.Nat.{◌+◌}
 use native.Mathlib.Omega.{arith}
-use lib.ListN.{length}
-use borrow.Author.Tests.{not-true, not-false}
 use Rattle.paging.specs.Layout.{tables64, get}
 use Rattle.paging.proofs.Indices.{index_small}
 use Rattle.tables.specs.State.{machine64, shadow_of}
-use Rattle.tables.specs.Steps.{settle}
 use Rattle.tables.proofs.Names.{few, frame_small}
 use Rattle.tables.proofs.Fills.{agrees-named, settle-end, settle-on, settle-cut}
-use Rattle.tables.specs.SizesCode.{SpotFits}
 use Rattle.tables.proofs.settle.Goals as goal
 
 pub loop-w-init : goal.loop-w-init

@@ -1,15 +1,8 @@
 -- What is left to settle says the same at every turn, and nothing is changed until the first difference.
-use mathlib.Core.Path.{◌≡◌, refl, sym, ap, ◌∙◌}
-use Prim.Native.Nat.{◌-◌, ◌+◌}
-use native.Mathlib.Omega.{arith}
+use mathlib.Core.Path.{◌≡◌}
 use lib.ListN.{length}
-use borrow.Author.Tests.{not-true, not-false}
-use Rattle.paging.specs.Layout.{tables64, get}
-use Rattle.paging.proofs.Indices.{index_small}
 use Rattle.tables.specs.State.{machine64, shadow_of}
 use Rattle.tables.specs.Steps.{settle}
-use Rattle.tables.proofs.Names.{few, frame_small}
-use Rattle.tables.proofs.Fills.{agrees-named, settle-end, settle-on, settle-cut}
 use Rattle.tables.specs.SizesCode.{SpotFits}
 use Rattle.tables.proofs.settle.Given as goal
 

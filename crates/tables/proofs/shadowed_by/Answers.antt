@@ -1,7 +1,6 @@
 -- A record past the end says 0.
 use mathlib.Core.Path.{sym, ap}
 use lib.ListN.{get_or-eq_default}
-use borrow.Author.Rules.{rules}
 use Rattle.paging.specs.Frame.{guest}
 use Rattle.tables.proofs.shadowed_by.Goals as goal
 

@@ -2,7 +2,6 @@
 use mathlib.Core.Path.{ap, ap₂, ◌∙◌}
 use Prim.Native.Nat.{ℕ, ◌-◌}
 use native.Mathlib.Omega.{arith}
-use borrow.Author.Rules.{rules}
 use Rattle.paging.specs.Layout.{tables64}
 use Rattle.paging.specs.Walk.{meet}
 use Rattle.paging.proofs.Rights.{rights_small}

@@ -1,13 +1,9 @@
 -- The entries below i are 0.
-use mathlib.Core.Path.{◌≡◌, refl, sym, ap, ◌∙◌}
-use mathlib.Core.List.{List}
-use Prim.Native.Nat.{ℕ, ◌-◌, ◌≤◌}
-use native.Mathlib.Omega.{arith}
+use mathlib.Core.Path.{◌≡◌}
+use Prim.Native.Nat.{◌-◌, ◌≤◌}
 use lib.ListN.{length}
 use Rattle.paging.specs.Layout.{tables64, put}
 use Rattle.paging.specs.Numbers.{each}
-use Rattle.tables.specs.Steps.{zeroed}
-use Rattle.paging.proofs.Numbers.{each_none, each_more}
 use Rattle.tables.proofs.zero_table.Given as goal
 
 abbrev pub invariant-loop-i : goal.invariant-loop-i

@@ -1,7 +1,6 @@
 -- The code's `&` is what two rights share.
 use mathlib.Core.Path.{◌∙◌, ap, subst, sym}
 use Prim.Native.Nat.{ℕ, ◌<◌}
-use borrow.Author.Rules.{rules}
 use Rattle.paging.specs.Layout.{tables64}
 use Rattle.paging.specs.Walk.{with_rights, meet}
 use Rattle.paging.proofs.Rights.{and_meet, rights_small}

@@ -2,8 +2,6 @@
 use mathlib.Core.Path.{◌∙◌, sym, ap, ap₂, subst}
 use Prim.Native.Nat.{ℕ, ◌<◌, ◌≤◌}
 use native.Mathlib.Omega.{arith}
-use borrow.Author.Rules.{rules}
-use borrow.Author.Tests.{not-true, not-false}
 use Rattle.paging.specs.declared.Walk.{Walk}
 use Rattle.paging.specs.declared.Step.TheVariants.{On}
 use Rattle.paging.specs.Frame.{guest}
