@@ -1,6 +1,6 @@
 -- How the code takes the events, in the form of its code: the words, the processor's CR3 and the work bytes after each.
 -- Nobody has to believe these; proofs/ shows that the bytes are the held walks.
-use Rattle.std.specs.Prelude.{◌≡◌, cond, ◌&&◌, List, ℕ, ◌*◌, ◌/◌, ◌<◌, eqb, set}
+use Rattle.std.specs.Prelude.{◌≡◌, cond, ◌&&◌, List, ℕ, ◌*◌, ◌<◌, eqb, set}
 use Rattle.paging.specs.Numbers.{each}
 use Rattle.paging.specs.Frame.{guest}
 use Rattle.paging.specs.Layout.{tables64, frame_words, page_of}

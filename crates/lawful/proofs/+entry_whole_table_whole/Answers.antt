@@ -1,11 +1,11 @@
-use Prim.Native.Nat.{ℕ, ◌+◌, ◌-◌, ◌<◌}
+use Prim.Native.Nat.{◌-◌}
 use mathlib.Core.Path.{refl, ap, ◌∙◌}
 use native.Mathlib.Omega.{arith}
 use Rattle.tables.specs.State.{machine64}
 use Rattle.tables.proofs.Names.{few}
 use Rattle.lawful.specs.Rules.{table_whole}
 use Rattle.paging.proofs.Tests.{positive, above_one}
-use Rattle.lawful.proofs.Wholes.{Checked, checked_none, checked_more, table_none, table_whole_lem, table_broken, entry_absent, entry_leaf, entry_stray, entry_named}
+use Rattle.lawful.proofs.Wholes.{checked_none, checked_more, table_none, table_whole_lem, table_broken, entry_absent, entry_leaf, entry_stray, entry_named}
 use Rattle.lawful.proofs.+entry_whole_table_whole.Goals as goal
 
 pub entry_whole-returns-then-e-eq0 : goal.entry_whole-returns-then-e-eq0

@@ -1,8 +1,6 @@
 -- The layout first, then the name.
 use mathlib.Core.Path.{◌≡◌, sym, ap, ◌∙◌}
 use Prim.Native.Nat.{ℕ}
-use borrow.Author.Tests.{not-true, not-false}
-use borrow.Author.Rules.{rules}
 use Rattle.tables.specs.State.{machine64, level_of}
 use Rattle.lawful.specs.Rules.{is_laid_out, entry_right}
 use Rattle.lawful.proofs.entry_right.Goals as goal

@@ -1,8 +1,7 @@
 -- The stores keep the length.
-use mathlib.Core.Path.{◌≡◌, sym, ◌∙◌}
+use mathlib.Core.Path.{◌≡◌}
 use Prim.Native.Nat.{◌≤◌, ◌-◌}
-use native.Mathlib.Omega.{arith}
-use lib.ListN.{length, length-set}
+use lib.ListN.{length}
 use Rattle.lawful.proofs.give_hints.Given as goal
 
 abbrev pub invariant-loop-i : goal.invariant-loop-i

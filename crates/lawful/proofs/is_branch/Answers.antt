@@ -1,8 +1,6 @@
 -- D is 0, and the frame is a table's.
 use mathlib.Core.Path.{sym, ap₂, ◌∙◌}
 use lib.Dec.{ltb}
-use borrow.Author.Tests.{not-true, not-false}
-use borrow.Author.Rules.{rules}
 use Rattle.lawful.specs.Rules.{is_branch}
 use Rattle.lawful.proofs.is_branch.Goals as goal
 

@@ -1,6 +1,5 @@
 -- Each way out is one case of the level.
 use borrow.Author.Tests.{eq-eqb, ne_eqb}
-use borrow.Author.Rules.{rules}
 use Rattle.lawful.specs.Rules.{is_laid_out}
 use Rattle.lawful.proofs.is_laid_out.Goals as goal
 

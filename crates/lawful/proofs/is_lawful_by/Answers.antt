@@ -1,6 +1,5 @@
 -- Tables, roots, slots, in this order.
 use mathlib.Core.Path.{sym, ◌∙◌}
-use borrow.Author.Tests.{not-true, not-false}
 use Rattle.lawful.specs.Rules.{lawful}
 use Rattle.lawful.proofs.is_lawful_by.Goals as goal
 

@@ -2,8 +2,6 @@
 use mathlib.Core.Path.{◌≡◌, sym, ap, ◌∙◌}
 use Prim.Native.Nat.{ℕ, ◌%◌}
 use native.Mathlib.Omega.{arith}
-use borrow.Author.Tests.{not-true, not-false}
-use borrow.Author.Rules.{rules}
 use Rattle.paging.specs.Layout.{tables64, bit, rights_of}
 use Rattle.lawful.specs.Rules.{is_mapped, is_made_with, is_leaf}
 use Rattle.lawful.proofs.is_leaf.Goals as goal

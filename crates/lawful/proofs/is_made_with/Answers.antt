@@ -3,7 +3,6 @@ use mathlib.Core.Path.{ap, ap₂, ◌∙◌}
 use Prim.Native.Nat.{ℕ}
 use native.Mathlib.Omega.{arith}
 use lib.Dec.{eqb}
-use borrow.Author.Rules.{rules}
 use Rattle.paging.specs.Layout.{tables64, compose}
 use Rattle.paging.proofs.Rights.{rights_small}
 use Rattle.tables.proofs.Names.{frame_small}

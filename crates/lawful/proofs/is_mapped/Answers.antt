@@ -1,7 +1,6 @@
 -- The frame stands where the hint says, or the search through the map finds a guest frame or none.
 use mathlib.Core.Path.{sym, ap, ◌∙◌}
 use native.Mathlib.Omega.{arith}
-use borrow.Author.Rules.{rules}
 use Rattle.lawful.specs.Rules.{is_of}
 use Rattle.lawful.proofs.Hints.{stands}
 use Rattle.lawful.proofs.is_mapped.Goals as goal

@@ -4,7 +4,6 @@ use Prim.Native.Nat.{◌/◌, ◌%◌}
 use native.Mathlib.Omega.{arith}
 use lib.Dec.{eqb}
 use borrow.Author.Tests.{eq-eqb, ne_eqb, lt-ltb, le-ltb}
-use borrow.Author.Rules.{rules}
 use Rattle.tables.specs.declared.Path.{Path}
 use Rattle.tables.specs.State.{machine64, table_count, path_to}
 use Rattle.lawful.specs.Rules.{is_on_path}

@@ -5,7 +5,6 @@ use Prim.Native.Nat.{ℕ, ◌+◌, ◌-◌, ◌<◌, ◌≤◌}
 use native.Mathlib.Omega.{arith}
 use lib.Dec.{eqb}
 use borrow.Author.Tests.{eq-eqb, ne_eqb, le-leb, lt-leb, eqb-true, eqb-false}
-use borrow.Author.Rules.{rules}
 use Rattle.tables.specs.State.{machine64, level_of, owner_of, named}
 use Rattle.tables.proofs.Names.{few, named_small}
 use Rattle.lawful.specs.Rules.{names_lower}

@@ -3,7 +3,6 @@ use mathlib.Core.Path.{◌≡◌, sym, ap, ◌∙◌}
 use Prim.Native.Nat.{ℕ}
 use native.Mathlib.Omega.{arith}
 use lib.Dec.{eqb}
-use borrow.Author.Rules.{rules}
 use Rattle.paging.specs.declared.Guest.{Guest}
 use Rattle.paging.proofs.Tests.{positive}
 use Rattle.tables.specs.State.{level_of, shadows}

@@ -1,9 +1,8 @@
 use mathlib.Core.Path.{◌≡◌, sym, ap, ◌∙◌}
-use Prim.Native.Nat.{ℕ, ◌-◌, ◌<◌}
+use Prim.Native.Nat.{ℕ, ◌<◌}
 use native.Mathlib.Omega.{arith}
-use borrow.Author.Tests.{not-true, not-false}
-use Rattle.paging.proofs.Loops.{Passed, passed_none, passed_more, passed_stop, passed-all}
-use Rattle.tables.specs.State.{shadow_of, machine64, table_count}
+use Rattle.paging.proofs.Loops.{passed_none, passed_more, passed_stop, passed-all}
+use Rattle.tables.specs.State.{machine64, table_count}
 use Rattle.tables.proofs.Names.{few}
 use Rattle.lawful.specs.Rules.{record_right, table_right, names_of}
 use Rattle.lawful.proofs.records_right.Goals as goal

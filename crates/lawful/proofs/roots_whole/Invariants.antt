@@ -1,11 +1,7 @@
 -- The roots below p are whole.
-use mathlib.Core.Path.{◌≡◌, sym, ap, ◌∙◌}
 use Prim.Native.Nat.{◌-◌}
-use native.Mathlib.Omega.{arith}
-use borrow.Author.Tests.{not-true, not-false}
-use Rattle.paging.proofs.Loops.{Passed, passed_none, passed_more, passed_stop, passed-all}
+use Rattle.paging.proofs.Loops.{Passed}
 use Rattle.tables.specs.State.{machine64, root_of}
-use Rattle.tables.proofs.Names.{few, root_small}
 use Rattle.lawful.specs.Rules.{table_whole}
 use Rattle.lawful.proofs.roots_whole.Given as goal
 

@@ -1,9 +1,7 @@
 -- The ways out are the cases of what is asked of a slot.
 use mathlib.Core.Path.{◌≡◌, ap}
-use mathlib.Core.List.{List}
 use Prim.Native.Nat.{ℕ, ◌+◌}
 use lib.ListN.{get_or}
-use borrow.Author.Rules.{rules}
 use Rattle.slots.specs.Slots.{slot_at, mark_of, page_in}
 use Rattle.lawful.proofs.Slots.{slot_beyond, slot_paged, slot_empty, slot_complete, slot_high, slot_partial}
 use Rattle.lawful.proofs.slot_right.Goals as goal

@@ -1,11 +1,6 @@
 use mathlib.Core.Path.{sym, ◌∙◌}
-use Prim.Native.Nat.{◌-◌}
 use native.Mathlib.Omega.{arith}
-use borrow.Author.Tests.{not-true, not-false}
-use Rattle.paging.specs.Numbers.{all}
-use Rattle.paging.proofs.Loops.{Passed, passed_none, passed_more, passed_stop, passed-all}
-use Rattle.tables.specs.State.{machine64}
-use Rattle.lawful.specs.Rules.{slot_right}
+use Rattle.paging.proofs.Loops.{passed_none, passed_more, passed_stop, passed-all}
 use Rattle.lawful.proofs.slots_right.Goals as goal
 
 pub loop-p-init : goal.loop-p-init

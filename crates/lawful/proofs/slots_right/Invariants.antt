@@ -1,10 +1,7 @@
 -- The processors below p have right slots.
-use mathlib.Core.Path.{sym, ◌∙◌}
 use Prim.Native.Nat.{◌-◌}
-use native.Mathlib.Omega.{arith}
-use borrow.Author.Tests.{not-true, not-false}
 use Rattle.paging.specs.Numbers.{all}
-use Rattle.paging.proofs.Loops.{Passed, passed_none, passed_more, passed_stop, passed-all}
+use Rattle.paging.proofs.Loops.{Passed}
 use Rattle.tables.specs.State.{machine64}
 use Rattle.lawful.specs.Rules.{slot_right}
 use Rattle.lawful.proofs.slots_right.Given as goal

@@ -1,5 +1,4 @@
 -- The counts start as zeros.
-use borrow.Author.Rules.{rules}
 use Rattle.lawful.proofs.Tallies.{tally_zero}
 use Rattle.lawful.proofs.tables_right.Goals as goal
 

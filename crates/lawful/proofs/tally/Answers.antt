@@ -1,9 +1,7 @@
 use mathlib.Core.Path.{◌≡◌, sym, ◌∙◌}
-use Prim.Native.Nat.{◌-◌, ◌≤◌}
 use native.Mathlib.Omega.{arith}
 use Rattle.tables.specs.State.{machine64, table_count}
 use Rattle.tables.proofs.Names.{few}
-use Rattle.lawful.specs.TallyCode.{Tallied}
 use Rattle.lawful.proofs.tally.Goals as goal
 
 pub table_count-n-requires : goal.table_count-n-requires

@@ -1,9 +1,5 @@
 -- The tables below t are counted.
-use mathlib.Core.Path.{◌≡◌, sym, ◌∙◌}
 use Prim.Native.Nat.{◌-◌, ◌≤◌}
-use native.Mathlib.Omega.{arith}
-use Rattle.tables.specs.State.{machine64, table_count}
-use Rattle.tables.proofs.Names.{few}
 use Rattle.lawful.specs.TallyCode.{Tallied}
 use Rattle.lawful.proofs.tally.Given as goal
 

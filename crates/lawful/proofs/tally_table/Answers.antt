@@ -1,10 +1,8 @@
 use mathlib.Core.Path.{◌≡◌, sym, ap, ◌∙◌}
-use Prim.Native.Nat.{◌-◌}
 use native.Mathlib.Omega.{arith}
 use Rattle.tables.specs.State.{machine64, entry_of, named}
 use Rattle.tables.proofs.Names.{few}
-use Rattle.paging.proofs.Counts.{by_cases}
-use Rattle.lawful.proofs.Tallies.{Tallying, tally_begin, tally_end, tally_small, tally_hit, tally_miss}
+use Rattle.lawful.proofs.Tallies.{tally_begin, tally_end, tally_small, tally_hit, tally_miss}
 use Rattle.lawful.proofs.tally_table.Goals as goal
 use Rattle.lawful.proofs.tally_table.Goals.{then-u-n, else-u-n, After-named_by-u}
 

@@ -1,13 +1,10 @@
 use mathlib.Core.Path.{◌≡◌, refl, sym, ap, ◌∙◌}
 use mathlib.Core.Bool.{Bool}
-use mathlib.Core.List.{List}
-use Prim.Native.Nat.{ℕ, ◌-◌, ◌≤◌}
+use Prim.Native.Nat.{ℕ}
 use native.Mathlib.Omega.{arith}
-use lib.ListN.{length}
-use Rattle.paging.specs.declared.Request.{Request}
 use Rattle.paging.specs.Numbers.{each}
 use Rattle.paging.proofs.Numbers.{each_none, each_more}
-use Rattle.listing.specs.CollectCode.{Out, out_of, pushed, serves, addresses}
+use Rattle.listing.specs.CollectCode.{out_of, pushed, addresses}
 use Rattle.listing.proofs.addresses.Invariants.{turn}
 use Rattle.listing.proofs.addresses.Goals as goal
 

@@ -1,14 +1,11 @@
 -- The frames below f have been written, at most f of them.
-use mathlib.Core.Path.{◌≡◌, refl, sym, ap, ◌∙◌}
-use mathlib.Core.Bool.{Bool}
+use mathlib.Core.Path.{◌≡◌}
 use mathlib.Core.List.{List}
 use Prim.Native.Nat.{ℕ, ◌-◌, ◌≤◌}
-use native.Mathlib.Omega.{arith}
 use lib.ListN.{length}
 use Rattle.paging.specs.declared.Request.{Request}
 use Rattle.paging.specs.Numbers.{each}
-use Rattle.paging.proofs.Numbers.{each_none, each_more}
-use Rattle.listing.specs.CollectCode.{Out, out_of, pushed, serves, addresses}
+use Rattle.listing.specs.CollectCode.{Out, out_of, pushed, serves}
 use Rattle.listing.proofs.addresses.Given as goal
 
 abbrev pub turn : ℕ → Request → List ℕ → ℕ → Out → Out

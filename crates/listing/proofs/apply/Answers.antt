@@ -3,7 +3,6 @@ use mathlib.Core.Path.{sym, ◌∙◌, ap}
 use Prim.Native.Nat.{ℕ}
 use native.Mathlib.Omega.{arith}
 use lib.ListN.{set, length-set}
-use borrow.Author.Rules.{rules}
 use Rattle.paging.specs.Layout.{tables64}
 use Rattle.paging.specs.Frame.{guest}
 use Rattle.held.specs.FollowCode.{restarted}

@@ -1,11 +1,9 @@
 use mathlib.Core.Path.{◌≡◌, sym, ap, ◌∙◌}
-use mathlib.Core.List.{List}
-use Prim.Native.Nat.{ℕ, ◌/◌, ◌-◌, ◌≤◌}
+use Prim.Native.Nat.{ℕ, ◌/◌}
 use native.Mathlib.Omega.{arith}
 use lib.ListN.{length}
 use Rattle.rules.specs.History.{setup64, event_refusal}
 use Rattle.listing.specs.Call.{first_refusal}
-use Rattle.rules.specs.Numbers.{event_of}
 use Rattle.listing.proofs.Refuses.{first_none, first_more, first-here}
 use Rattle.listing.proofs.events_refusal.Invariants.{of}
 use Rattle.listing.proofs.events_refusal.Goals as goal

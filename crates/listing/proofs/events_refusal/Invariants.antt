@@ -1,13 +1,10 @@
 -- No event before the k-th is refused.
-use mathlib.Core.Path.{◌≡◌, sym, ap, ◌∙◌}
+use mathlib.Core.Path.{◌≡◌}
 use mathlib.Core.List.{List}
-use Prim.Native.Nat.{ℕ, ◌/◌, ◌-◌, ◌≤◌}
-use native.Mathlib.Omega.{arith}
-use lib.ListN.{length}
+use Prim.Native.Nat.{ℕ, ◌-◌, ◌≤◌}
 use Rattle.rules.specs.History.{setup64, event_refusal}
 use Rattle.listing.specs.Call.{first_refusal}
 use Rattle.rules.specs.Numbers.{event_of}
-use Rattle.listing.proofs.Refuses.{first_none, first_more, first-here}
 use Rattle.listing.proofs.events_refusal.Given as goal
 
 abbrev pub of : ℕ → ℕ → List ℕ → List ℕ → List ℕ → ℕ → ℕ

@@ -1,8 +1,7 @@
 use mathlib.Core.Path.{◌≡◌}
-use Prim.Native.Nat.{◌*◌, ◌-◌, ◌≤◌}
+use Prim.Native.Nat.{◌*◌}
 use native.Mathlib.Omega.{arith}
-use borrow.Author.Rules.{rules}
-use Rattle.listing.proofs.Stopping.{Found, found_none, found_more, found_all}
+use Rattle.listing.proofs.Stopping.{found_none, found_more, found_all}
 use Rattle.listing.proofs.find_faults.Goals as goal
 
 pub overflow_mul-first : goal.overflow_mul-first

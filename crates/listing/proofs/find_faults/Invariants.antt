@@ -1,9 +1,6 @@
 -- In one pass: the faults of the bytes before the j-th are found.
-use mathlib.Core.Path.{◌≡◌}
-use Prim.Native.Nat.{◌*◌, ◌-◌, ◌≤◌}
-use native.Mathlib.Omega.{arith}
-use borrow.Author.Rules.{rules}
-use Rattle.listing.proofs.Stopping.{Found, found_none, found_more, found_all}
+use Prim.Native.Nat.{◌-◌, ◌≤◌}
+use Rattle.listing.proofs.Stopping.{Found}
 use Rattle.listing.proofs.find_faults.Given as goal
 
 abbrev pub invariant-loop-j : goal.invariant-loop-j

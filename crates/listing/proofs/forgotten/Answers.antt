@@ -1,6 +1,5 @@
 -- By whether the page is the one asked about.
 use mathlib.Core.Path.{sym, ◌∙◌}
-use borrow.Author.Rules.{rules}
 use Rattle.listing.proofs.Applies.{forgets-all, forgets_partial}
 use Rattle.listing.proofs.forgotten.Goals as goal
 

@@ -2,7 +2,6 @@
 use mathlib.Core.Path.{◌≡◌, refl, sym, ◌∙◌}
 use Prim.Native.Nat.{ℕ}
 use native.Mathlib.Omega.{arith}
-use borrow.Author.Rules.{rules}
 use Rattle.listing.specs.Call.{Asked, Lent, asked, lent, list_refusal}
 use Rattle.listing.proofs.Accepts.{Accepted, accepted, ready}
 use Rattle.listing.proofs.Promise.{lists}

@@ -1,6 +1,5 @@
 -- By whether there is a pair to write.
 use native.Mathlib.Omega.{arith}
-use borrow.Author.Rules.{rules}
 use borrow.Author.Tests.{not-true, not-false}
 use Rattle.listing.proofs.push.Goals as goal
 

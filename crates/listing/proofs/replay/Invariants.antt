@@ -1,13 +1,8 @@
 -- After k events the words, the CR3 and the bytes are those of the first k.
-use mathlib.Core.Path.{◌≡◌, refl, sym, ap, ◌∙◌, subst}
-use Prim.Native.Nat.{ℕ, ◌/◌, ◌-◌, ◌≤◌, ◌<◌}
-use native.Mathlib.Omega.{arith}
+use mathlib.Core.Path.{◌≡◌}
+use Prim.Native.Nat.{◌-◌, ◌≤◌, ◌<◌}
 use lib.ListN.{length}
-use Rattle.paging.proofs.Numbers.{each_none, each_more}
-use Rattle.rules.specs.declared.Event.{Event}
-use Rattle.rules.specs.Numbers.{event_of}
-use Rattle.listing.specs.ReplayCode.{Replay, replay_of, Reach, applied, replayed}
-use Rattle.listing.proofs.Applies.{applied_in}
+use Rattle.listing.specs.ReplayCode.{replay_of, replayed}
 use Rattle.listing.proofs.replay.Given as goal
 
 abbrev pub invariant-loop-k : goal.invariant-loop-k

@@ -1,8 +1,6 @@
 use mathlib.Core.Path.{◌≡◌, sym, ap, ◌∙◌}
-use mathlib.Core.Bool.{false}
-use Prim.Native.Nat.{ℕ, ◌-◌, ◌≤◌}
+use Prim.Native.Nat.{ℕ}
 use native.Mathlib.Omega.{arith}
-use borrow.Author.Rules.{rules}
 use Rattle.paging.specs.Numbers.{some}
 use Rattle.paging.proofs.Numbers.{some_none, some_more, some_i}
 use Rattle.listing.specs.CollectCode.{serves_with, serves}

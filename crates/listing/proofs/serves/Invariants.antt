@@ -1,12 +1,9 @@
 -- No walk with rights below r serves.
-use mathlib.Core.Path.{◌≡◌, sym, ap, ◌∙◌}
+use mathlib.Core.Path.{◌≡◌}
 use mathlib.Core.Bool.{false}
-use Prim.Native.Nat.{ℕ, ◌-◌, ◌≤◌}
-use native.Mathlib.Omega.{arith}
-use borrow.Author.Rules.{rules}
+use Prim.Native.Nat.{◌-◌, ◌≤◌}
 use Rattle.paging.specs.Numbers.{some}
-use Rattle.paging.proofs.Numbers.{some_none, some_more, some_i}
-use Rattle.listing.specs.CollectCode.{serves_with, serves}
+use Rattle.listing.specs.CollectCode.{serves_with}
 use Rattle.listing.proofs.serves.Given as goal
 
 abbrev pub invariant-loop-r : goal.invariant-loop-r

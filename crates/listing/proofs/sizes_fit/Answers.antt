@@ -2,8 +2,7 @@
 use mathlib.Core.Path.{sym, ◌∙◌}
 use Prim.Native.Nat.{◌*◌, ◌/◌, ◌%◌}
 use native.Mathlib.Omega.{arith}
-use borrow.Author.Rules.{rules}
-use borrow.Author.Tests.{not-true, not-false, eq-eqb, ne_eqb, le-leb, lt-leb}
+use borrow.Author.Tests.{eq-eqb, ne_eqb, le-leb, lt-leb}
 use Rattle.paging.proofs.Numbers.{between}
 use Rattle.listing.specs.Call.{sizes_fit}
 use Rattle.listing.proofs.sizes_fit.Goals as goal

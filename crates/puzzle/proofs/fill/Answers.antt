@@ -3,7 +3,6 @@ use mathlib.Core.Path.{◌≡◌, ap, ◌∙◌}
 use Prim.Native.Nat.{◌*◌, ◌≤◌}
 use native.Mathlib.Omega.{arith}
 use lib.ListN.{length, take, replicate}
-use borrow.Author.Rules.{rules}
 use Rattle.puzzle.specs.Buffers.{with_pairs}
 use Rattle.puzzle.specs.PartsCode.{lists, Whole}
 use Rattle.puzzle.proofs.Calls.{not_refused, pairs_below, accepted_answer}

@@ -1,7 +1,6 @@
 -- The call as a whole: lengths first, then the text's verdict, and only then the buffers.
 use mathlib.Core.Path.{◌≡◌, sym, ◌∙◌}
 use lib.ListN.{length}
-use borrow.Author.Rules.{rules}
 use borrow.Author.Tests.{eq-eqb, ne_eqb, le-leb, lt-leb}
 use Rattle.sections.specs.Sections.{puzzle_of}
 use Rattle.puzzle.specs.Buffers.{buffers, answer, read_call}

@@ -1,5 +1,4 @@
 -- A refusal stays; else the section is read where the one before it ended.
-use borrow.Author.Rules.{rules}
 use mathlib.Core.Path.{refl}
 use Rattle.puzzle.proofs.Cases.{next-by}
 use Rattle.puzzle.proofs.read_next.Goals as goal

@@ -2,7 +2,6 @@
 use mathlib.Core.Path.{refl, ◌∙◌}
 use Prim.Native.Nat.{◌≤◌}
 use native.Mathlib.Omega.{arith}
-use borrow.Author.Rules.{rules}
 use Rattle.cursor.specs.Text.{feeds}
 use Rattle.puzzle.proofs.Chain.{few, part_ready, next-ready, parts_are}
 use Rattle.puzzle.proofs.read_sections.Goals as goal

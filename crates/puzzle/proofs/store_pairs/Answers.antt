@@ -1,9 +1,8 @@
-use mathlib.Core.Path.{◌≡◌, refl, ◌∙◌}
-use Prim.Native.Nat.{◌-◌, ◌*◌, ◌≤◌, ◌<◌}
+use mathlib.Core.Path.{refl, ◌∙◌}
+use Prim.Native.Nat.{◌*◌, ◌<◌}
 use native.Mathlib.Omega.{arith}
-use lib.ListN.{length, take, drop, get_or, length-set}
+use lib.ListN.{length, get_or, length-set}
 use lib.Seq.{get_or-take, length-take-le}
-use Rattle.puzzle.specs.Buffers.{with_pairs}
 use Rattle.puzzle.proofs.Fills.{pair_more, pair_end}
 use Rattle.puzzle.proofs.store_pairs.Goals as goal
 use Rattle.puzzle.proofs.store_pairs.Goals.{In-loop-i}

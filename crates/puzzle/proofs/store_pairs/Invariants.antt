@@ -1,11 +1,8 @@
 -- Each word becomes its value. At every turn the pairs that are left, stored into the words so far, give the same.
-use mathlib.Core.Path.{◌≡◌, refl, ◌∙◌}
-use Prim.Native.Nat.{◌-◌, ◌*◌, ◌≤◌, ◌<◌}
-use native.Mathlib.Omega.{arith}
-use lib.ListN.{length, take, drop, get_or, length-set}
-use lib.Seq.{get_or-take, length-take-le}
+use mathlib.Core.Path.{◌≡◌}
+use Prim.Native.Nat.{◌-◌, ◌*◌, ◌≤◌}
+use lib.ListN.{length, take, drop}
 use Rattle.puzzle.specs.Buffers.{with_pairs}
-use Rattle.puzzle.proofs.Fills.{pair_more, pair_end}
 use Rattle.puzzle.proofs.store_pairs.Given as goal
 
 abbrev pub invariant-loop-i : goal.invariant-loop-i

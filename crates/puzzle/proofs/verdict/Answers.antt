@@ -1,5 +1,4 @@
 -- The result of the sections is the verdict on the text, whatever buffers they are read into.
-use borrow.Author.Rules.{rules}
 use Rattle.puzzle.proofs.Fills.{verdict_is}
 use Rattle.puzzle.proofs.verdict.Goals as goal
 
