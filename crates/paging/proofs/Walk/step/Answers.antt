@@ -1,11 +1,12 @@
 -- Each return is one case of the step.
-use mathlib.Core.Path.{◌∙◌, sym, ap, ap₂, subst}
+use mathlib.Core.Path.{◌≡◌, ◌∙◌, sym, ap, ap₂, subst}
+use mathlib.Core.Bool.{true}
 use Prim.Native.Nat.{ℕ, ◌<◌, ◌≤◌}
 use native.Mathlib.Omega.{arith}
 use Rattle.paging.specs.declared.Walk.{Walk}
 use Rattle.paging.specs.declared.Step.TheVariants.{On}
 use Rattle.paging.specs.Frame.{guest}
-use Rattle.paging.specs.Layout.{tables64}
+use Rattle.paging.specs.Layout.{tables64, is_present}
 use Rattle.paging.specs.Walk.{down_to}
 use Rattle.paging.proofs.Steps.{step_complete, step_absent, step_beyond, step-on}
 use Rattle.paging.proofs.Walk.step.Goals as goal
@@ -21,7 +22,7 @@ returns-then-not-here c =
 pub returns-then-f-frames : goal.returns-then-f-frames
 returns-then-f-frames c =
     let a = c.args in
-    let here = sym c.present-here.ensures ∙ c.if-not-here.false in
+    let here : is_present a.e ≡ true = cc in
     let f = c.frame_of-f.ensures in
     sym (step_beyond tables64 a.frames a.self a.e (omega arith) here (subst (λ (x : ℕ). a.frames ≤ x) f c.if-f-frames.true))
 
