@@ -3,7 +3,7 @@
 use mathlib.Core.List.{List, [], ◌∷◌}
 use Prim.Native.Nat.{ℕ}
 use seplogic.Ra.Ura.{Ura}
-use seplogic.Ra.TreeShare.{full_share}
+use base.Fraction.{full_share}
 use mir.Val.{Val}
 use base.Logic.{ent, guard}
 use base.Fml.{fsep, fat}
@@ -29,7 +29,7 @@ module _ {M : Type 1} {𝓤 : Ura M} (𝓛 : Logic 𝓤) (c : Cursor) (l : ℕ) 
   unfolding part_of
   lies_in is =
       qed 𝓛 (‵ (fat full_share T'.mir l 0 (T'.lowered c)) ∷ []) ∵ use1 𝓛 (‵ (cell_at full_share R.mir (T'.lowered c ∷ []) l 0)) (𝓛.laws.at_raw full_share T'.mir l 0 (T'.lowered c)) $
-      owned ! R (Is R) ((LL.makes T.the_type T'.the_plain) 𝓛) c _ is $ move ! (1 ∷ 0 ∷ []) $ fjoin ! $ fpack ! (List Val) (λ vs. fsep (cell_at full_share R.mir vs l 0) (R.own c vs)) (T'.lowered c ∷ []) $ done !
+      owned ! R (Is R) ((LL.makes T.the_type T'.the_plain) 𝓛) c _ is $ move ! (1 ∷ 0 ∷ []) $ fjoin ! $ fpack ! (List Val) (λ vs. fsep (cell_at full_share R.mir vs l 0) (R.own_val c vs)) (T'.lowered c ∷ []) $ done !
 
   pub lies_out : ent 𝓤 (sem 𝓛 (part_at R full_share c l 0)) (guard 𝓤 (Is R c (T'.lowered c ∷ [])) (H.at full_share T'.mir l 0 (T'.lowered c)))
   unfolding part_of

@@ -95,7 +95,7 @@ pub fn next_number(text: &[u8], c: Cursor) -> Next
     }
 }
 
-// The same step over a lent cursor. Proved by hand: a reference to a struct is not covered.
+// The same step over a lent cursor.
 pub fn skip_lent(text: &[u8], c: &mut Cursor)
     requires { Stands text.now c.old }
     ensures { c.new ≡ cursor_at text.now (past_blanks text.now c.old.at) }
@@ -114,7 +114,7 @@ pub fn past(n: Next, c: Cursor) -> Cursor
     }
 }
 
-// The next number over a lent cursor, which then stands past it. Proved by hand.
+// The next number over a lent cursor, which then stands past it.
 pub fn next_lent(text: &[u8], c: &mut Cursor) -> Next
     requires { Stands text.now c.old }
     ensures { Stepped text.now c.old result c.new }
@@ -126,7 +126,7 @@ pub fn next_lent(text: &[u8], c: &mut Cursor) -> Next
     n
 }
 
-// The reader's step past blanks: it lends a cursor of its own, so that no caller needs a proof by hand.
+// The reader's step past blanks: it lends a cursor of its own.
 pub fn skip_from(text: &[u8], c: Cursor) -> Cursor
     requires { Stands text.now c }
     ensures { result ≡ cursor_at text.now (past_blanks text.now c.at) }

@@ -104,6 +104,13 @@ stops f Absent work t = refl
 stops f Beyond work t = refl
 stops f Complete work t = refl
 
+-- the same of a step that is no On, as the code's arm says it
+pub stops_unless_on : (f : Walk → List ℕ → List ℕ) (s : Step) (work : List ℕ) → ((w : Walk) → s ≡ On w → ⊥) → onward f s work ≡ work
+stops_unless_on f (On w) work t = absurd (t w refl)
+stops_unless_on f Absent work t = refl
+stops_unless_on f Beyond work t = refl
+stops_unless_on f Complete work t = refl
+
 -- the entry of index i lies in word a, in 64-bit tables
 pub here_64 : (a i : ℕ) → i ≡ a % frame_words → frame_words * (a / frame_words) + i ≡ a
 here_64 a i e = omega arith

@@ -1,5 +1,5 @@
 -- What `answers` and `run` print, as the list of its bytes.
-use Rattle.std.specs.Prelude.{List, [], ◌∷◌, ◌++◌, ℕ, ◌+◌, length}
+use Rattle.std.specs.Prelude.{List, [], ◌∷◌, ◌++◌, ℕ, length}
 use Rattle.cursor.specs.Text.{spaced}
 use Rattle.paging.specs.Frame.{host_of, host_address}
 use Rattle.rules.specs.declared.Question.{Question}

@@ -1,0 +1,7 @@
+-- The result of the sections is the verdict on the text, whatever buffers they are read into.
+use borrow.Author.Rules.{rules}
+use Rattle.puzzle.proofs.Fills.{verdict_is}
+use Rattle.puzzle.proofs.verdict.Goals as goal
+
+pub returns : goal.returns
+returns c = verdict_is c.read_sections.result c.read_sections.ensures

@@ -1,0 +1,15 @@
+-- The slots below k are done.
+use mathlib.Core.Path.{◌≡◌, refl, sym, ap, ◌∙◌}
+use Prim.Native.Nat.{ℕ, ◌-◌, ◌≤◌}
+use native.Mathlib.Omega.{arith}
+use lib.ListN.{length}
+use Rattle.paging.specs.Numbers.{each}
+use Rattle.slots.specs.Slots.{emptied, empty_slots}
+use Rattle.paging.proofs.Numbers.{each_none, each_more}
+use Rattle.slots.proofs.empty_slots.Given as goal
+
+abbrev pub invariant-loop-k : goal.invariant-loop-k
+invariant-loop-k l = (l.k ≤ 8) × (length l.slots ≡ length l.initial.slots) × (l.slots ≡ each l.k (emptied l.p) l.initial.slots)
+
+abbrev pub decreases-loop-k : goal.decreases-loop-k
+decreases-loop-k l = 8 - l.k
