@@ -1,5 +1,5 @@
 //! Links the proved static library. It is looked for in the folder that FLAMECURL_LIB_DIR names, in the source tree, where
-//! `rt staticlib flamecurl` writes it, and where pkg-config knows it from `make install`.
+//! `./flamecurl build` writes it, and where pkg-config knows it from `make install`.
 
 use std::env;
 use std::path::{Path, PathBuf};

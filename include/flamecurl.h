@@ -1,4 +1,4 @@
-/* Flamecurl as a C library: target/staticlib/libflamecurl.a, made by `rt staticlib flamecurl`, for x86-64 Linux.
+/* Flamecurl as a C library: target/staticlib/libflamecurl.a, made by `./flamecurl build`, for x86-64 Linux.
 
    A buffer is a pointer and a count of its elements. A pointer must not be NULL, even if its count is 0, must be aligned for
    its elements, and must be good for that many of them; buffers that a call may write must not overlap any other.

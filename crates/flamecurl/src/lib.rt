@@ -1,5 +1,5 @@
-// The public library as a C interface: a slice is a pointer and a count, an answer is document 01's numbers in a lent buffer,
-// and each function returns the refusal number.
+// The public library's calls in the form that C sees (crates/flamecurl_c exports them): an answer is document 01's numbers in a
+// lent buffer, and each function returns the refusal number.
 #![tactic(auto)]
 
 ghost use Rattle.std.specs.Prelude.{◌≡◌, [], length, get_or};
@@ -93,8 +93,7 @@ fn put_answer(answer: &mut [u64], r: Answer) -> u64
 // ---- the calls
 
 // Every permitted outcome of a question. The answer: refusal, count.
-#[unsafe(no_mangle)]
-pub extern "C" fn flamecurl_list(
+pub fn flamecurl_list(
     map: &[u64],
     words: &mut [u64],
     cr3s: &[u64],
@@ -121,8 +120,7 @@ pub extern "C" fn flamecurl_list(
 }
 
 // A fresh machine.
-#[unsafe(no_mangle)]
-pub extern "C" fn flamecurl_setup(
+pub fn flamecurl_setup(
     map: &[u64],
     cr3s: &[u64],
     pool: &mut [u64],
@@ -146,8 +144,7 @@ pub extern "C" fn flamecurl_setup(
 }
 
 // One event of the machine. The answer: refusal, kind, value.
-#[unsafe(no_mangle)]
-pub extern "C" fn flamecurl_event(
+pub fn flamecurl_event(
     map: &[u64],
     words: &mut [u64],
     pool: &mut [u64],
@@ -185,8 +182,7 @@ pub extern "C" fn flamecurl_event(
 }
 
 // A puzzle text into buffers. The answer: refusal, line, then the counts of the five sections.
-#[unsafe(no_mangle)]
-pub extern "C" fn flamecurl_read(
+pub fn flamecurl_read(
     text: &[u8],
     map: &mut [u64],
     cr3s: &mut [u64],
@@ -215,16 +211,14 @@ fn print(text: &[u8], output: &mut [u8], answer: &mut [u64], program: Program) -
 }
 
 // What the program `answers` prints for a text. The answer: refusal, bytes written, a refused text's number and line.
-#[unsafe(no_mangle)]
-pub extern "C" fn flamecurl_answers(text: &[u8], output: &mut [u8], answer: &mut [u64]) -> u64
+pub fn flamecurl_answers(text: &[u8], output: &mut [u8], answer: &mut [u64]) -> u64
     ensures { PrintExport AnswersOf text.now output.old output.new answer.old result answer.new }
 {
     print(text, output, answer, Program::Answers)
 }
 
 // What the program `run` prints for a text. The answer: as of `answers`.
-#[unsafe(no_mangle)]
-pub extern "C" fn flamecurl_run(text: &[u8], output: &mut [u8], answer: &mut [u64]) -> u64
+pub fn flamecurl_run(text: &[u8], output: &mut [u8], answer: &mut [u64]) -> u64
     ensures { PrintExport RunOf text.now output.old output.new answer.old result answer.new }
 {
     print(text, output, answer, Program::Run)

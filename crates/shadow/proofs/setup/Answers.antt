@@ -2,20 +2,17 @@
 use mathlib.Core.Path.{sym, ◌∙◌}
 use mathlib.Core.List.{[]}
 use borrow.Author.Rules.{rules}
-use Rattle.tables.specs.State.{State, shadow_of, state_of, machine64}
+use Rattle.tables.specs.State.{shadow_of, state_of, machine64}
 use Rattle.shadow.proofs.Starting.{accepted_sizes, setup_exact, setup_cr3s, setup_sized, setup_refused, setup_done}
 use Rattle.shadow.proofs.setup.Goals as goal
 
-abbrev entry : tie.Start → State
-entry c = let a = c.args in state_of [] (shadow_of a.pool.now a.records.now) a.slots.now
-
 pub returns-then-n-ne0 : goal.returns-then-n-ne0
-returns-then-n-ne0 c = let a = c.args in setup_refused (machine64 a.z) a.map.now a.cr3s.now (entry (goal.at.returns-then-n-ne0 c).Start) c.setup_refusal-n.ensures c.if-n-ne0.true
+returns-then-n-ne0 c = let a = c.args in setup_refused (machine64 a.z) a.map.now a.cr3s.now (state_of [] (shadow_of a.pool.now a.records.now) a.slots.now) c.setup_refusal-n.ensures c.if-n-ne0.true
 
 pub set_roots-requires : goal.set_roots-requires
 set_roots-requires c =
     let a = c.args in
-    let s = entry (goal.at.set_roots-requires c).Start in
+    let s = state_of [] (shadow_of a.pool.now a.records.now) a.slots.now in
     let h = accepted_sizes (machine64 a.z) a.map.now a.cr3s.now s (sym c.setup_refusal-n.ensures ∙ c.if-n-ne0.false) in
     let x = setup_exact (machine64 a.z) a.map.now a.cr3s.now s h.0 h.1 in record { room = record { sized = setup_sized a.z a.map.now a.cr3s.now s h.0 h.1; pairs = c.zero-2.auto.buffer ∙ x.pairs }; cr3s_len = setup_cr3s (machine64 a.z) a.map.now a.cr3s.now s h.0 h.1 }
 
@@ -31,5 +28,5 @@ shape_of-slots c = c.zero-3.auto.buffer
 pub returns : goal.returns
 returns c =
     let a = c.args in
-    setup_done (machine64 a.z) a.map.now a.cr3s.now (entry (goal.at.returns c).Start) (sym c.setup_refusal-n.ensures ∙ c.if-n-ne0.false)
+    setup_done (machine64 a.z) a.map.now a.cr3s.now (state_of [] (shadow_of a.pool.now a.records.now) a.slots.now) (sym c.setup_refusal-n.ensures ∙ c.if-n-ne0.false)
     c.zero.ensures c.zero-2.ensures c.zero-3.ensures c.set_roots.ensures

@@ -2,13 +2,10 @@
 use mathlib.Core.Path.{◌≡◌, ◌∙◌}
 use native.Mathlib.Omega.{arith}
 use borrow.Author.Rules.{rules}
-use Rattle.tables.specs.State.{State, shadow_of, state_of, machine64}
+use Rattle.tables.specs.State.{shadow_of, state_of, machine64}
 use Rattle.shadow.proofs.Moves.{seventh, moved_store, moved-invlpg, moved-cr3, moved_access, moved_begin, moved_extend, moved-drop}
 use Rattle.shadow.proofs.take_step.Goals as goal
 use Rattle.shadow.proofs.take_step.Goals.{In_default}
-
-abbrev entry : tie.Start → State
-entry c = let a = c.args in state_of a.words.now (shadow_of a.pool.now a.records.now) a.slots.now
 
 -- the last arm is kind 7
 is-seven : (c : In_default) → c.args.e.kind ≡ 7
@@ -41,7 +38,7 @@ pub shape_of-words-in-1 : goal.shape_of-words-in-1
 shape_of-words-in-1 c = c.store.auto.words
 
 pub returns-in-1 : goal.returns-in-1
-returns-in-1 c = let a = c.args in c.store.ensures (shadow_of a.pool.now a.records.now) a.slots.now ∙ moved_store (machine64 a.z) a.map.now (entry (goal.at.returns-in-1 c).Start) a.e c.in-1.is
+returns-in-1 c = let a = c.args in c.store.ensures (shadow_of a.pool.now a.records.now) a.slots.now ∙ moved_store (machine64 a.z) a.map.now (state_of a.words.now (shadow_of a.pool.now a.records.now) a.slots.now) a.e c.in-1.is
 
 pub shape_of-pool-in-2 : goal.shape_of-pool-in-2
 shape_of-pool-in-2 c = c.invlpg.auto.pool
@@ -50,7 +47,7 @@ pub shape_of-slots-in-2 : goal.shape_of-slots-in-2
 shape_of-slots-in-2 c = c.invlpg.auto.slots
 
 pub returns-in-2 : goal.returns-in-2
-returns-in-2 c = let a = c.args in c.invlpg.ensures a.words.now a.records.now ∙ moved-invlpg (machine64 a.z) a.map.now (entry (goal.at.returns-in-2 c).Start) a.e c.in-2.is
+returns-in-2 c = let a = c.args in c.invlpg.ensures a.words.now a.records.now ∙ moved-invlpg (machine64 a.z) a.map.now (state_of a.words.now (shadow_of a.pool.now a.records.now) a.slots.now) a.e c.in-2.is
 
 pub shape_of-pool-in-3 : goal.shape_of-pool-in-3
 shape_of-pool-in-3 c = c.write_cr3.auto.pool
@@ -62,7 +59,7 @@ pub shape_of-slots-in-3 : goal.shape_of-slots-in-3
 shape_of-slots-in-3 c = c.write_cr3.auto.slots
 
 pub returns-in-3 : goal.returns-in-3
-returns-in-3 c = let a = c.args in c.write_cr3.ensures a.words.now ∙ moved-cr3 (machine64 a.z) a.map.now (entry (goal.at.returns-in-3 c).Start) a.e c.in-3.is
+returns-in-3 c = let a = c.args in c.write_cr3.ensures a.words.now ∙ moved-cr3 (machine64 a.z) a.map.now (state_of a.words.now (shadow_of a.pool.now a.records.now) a.slots.now) a.e c.in-3.is
 
 pub shape_of-words-in-4 : goal.shape_of-words-in-4
 shape_of-words-in-4 c = c.access.auto.words
@@ -77,19 +74,19 @@ pub shape_of-slots-in-4 : goal.shape_of-slots-in-4
 shape_of-slots-in-4 c = c.access.auto.slots
 
 pub returns-in-4 : goal.returns-in-4
-returns-in-4 c = let a = c.args in c.access.ensures ∙ moved_access (machine64 a.z) a.map.now (entry (goal.at.returns-in-4 c).Start) a.e c.in-4.is
+returns-in-4 c = let a = c.args in c.access.ensures ∙ moved_access (machine64 a.z) a.map.now (state_of a.words.now (shadow_of a.pool.now a.records.now) a.slots.now) a.e c.in-4.is
 
 pub shape_of-slots-in-5 : goal.shape_of-slots-in-5
 shape_of-slots-in-5 c = c.begin.auto.slots
 
 pub returns-in-5 : goal.returns-in-5
-returns-in-5 c = let a = c.args in c.begin.ensures a.words.now (shadow_of a.pool.now a.records.now) ∙ moved_begin (machine64 a.z) a.map.now (entry (goal.at.returns-in-5 c).Start) a.e c.in-5.is
+returns-in-5 c = let a = c.args in c.begin.ensures a.words.now (shadow_of a.pool.now a.records.now) ∙ moved_begin (machine64 a.z) a.map.now (state_of a.words.now (shadow_of a.pool.now a.records.now) a.slots.now) a.e c.in-5.is
 
 pub returns-in-6 : goal.returns-in-6
-returns-in-6 c = let a = c.args in c.extend.ensures a.words.now a.records.now ∙ moved_extend (machine64 a.z) a.map.now (entry (goal.at.returns-in-6 c).Start) a.e c.in-6.is
+returns-in-6 c = let a = c.args in c.extend.ensures a.words.now a.records.now ∙ moved_extend (machine64 a.z) a.map.now (state_of a.words.now (shadow_of a.pool.now a.records.now) a.slots.now) a.e c.in-6.is
 
 pub shape_of-slots-in_default : goal.shape_of-slots-in_default
 shape_of-slots-in_default c = c.drop_slot.auto.slots
 
 pub returns-in_default : goal.returns-in_default
-returns-in_default c = let a = c.args in c.drop_slot.ensures a.words.now (shadow_of a.pool.now a.records.now) ∙ moved-drop (machine64 a.z) a.map.now (entry (goal.at.returns-in_default c).Start) a.e (is-seven (goal.at.returns-in_default c).In_default)
+returns-in_default c = let a = c.args in c.drop_slot.ensures a.words.now (shadow_of a.pool.now a.records.now) ∙ moved-drop (machine64 a.z) a.map.now (state_of a.words.now (shadow_of a.pool.now a.records.now) a.slots.now) a.e (is-seven (goal.at.returns-in_default c).In_default)

@@ -29,14 +29,14 @@ on-path c =
     subst⁻¹ (OnPath (machine64 a.z) 1) c.path_to-w.ensures
     (path_range (machine64 a.z) a.pool.now a.p c.page_of-page.result 1 (omega (arith, root_small c.requires.ready.sized a.p c.requires.ready.own)) (omega arith))
 
-index_is : (c : After-index_of) → c.index_of.result ≡ index tables64 c.page_of-page.result c.path_to-w.result.level
-index_is c = c.index_of.ensures ∙ ap (index tables64 c.page_of-page.result) (sym (on-path c).level)
+index_is : (c : After-index_of) → OnPath (machine64 c.args.z) 1 c.path_to-w.result → c.index_of.result ≡ index tables64 c.page_of-page.result c.path_to-w.result.level
+index_is c on = c.index_of.ensures ∙ ap (index tables64 c.page_of-page.result) (sym on.level)
 
 pub request_of-q-requires : goal.request_of-q-requires
 request_of-q-requires c = c.requires.request_bound
 
 pub serving_slot-k-requires : goal.serving_slot-k-requires
-serving_slot-k-requires c = (omega (arith, c.requires.ready.own, c.requires.ready.sized.processors), c.requires.ready.triples, needs-of (goal.at.serving_slot-k-requires c).After-page_of-page)
+serving_slot-k-requires c = (omega (arith, c.requires.ready.own, c.requires.ready.sized.processors), c.requires.ready.triples, needs-of (goal.at.serving_slot-k-requires c).After-request_of-q)
 
 pub slot_at-at-requires : goal.slot_at-at-requires
 slot_at-at-requires c = (omega (arith, c.requires.ready.own, c.requires.ready.sized.processors), c.if-k-lt-SLOTS.true)
@@ -69,7 +69,7 @@ returns-then-path_serves c =
     let a = c.args in
     access_path (machine64 a.z) a.map.now a.p a.a a.request (state_of a.words.now (shadow_of a.pool.now a.records.now) a.slots.now)
     c.page_of-page.ensures c.request_of-q.ensures c.serving_slot-k.ensures c.if-k-lt-SLOTS.false
-    c.path_to-w.result _ _ c.path_to-w.ensures (index_is (goal.at.returns-then-path_serves c).After-index_of) c.entry_at-e.ensures
+    c.path_to-w.result _ _ c.path_to-w.ensures (index_is (goal.at.returns-then-path_serves c).After-index_of (on-path (goal.at.returns-then-path_serves c).After-path_to-w)) c.entry_at-e.ensures
     (sym c.path_serves.ensures ∙ c.if-path_serves.true)
     (c.host_address-then-path_serves.ensures ∙ ap (λ (f : ℕ). host_address (host f) a.a) c.frame_of.ensures)
 
@@ -81,6 +81,6 @@ returns c =
     let a = c.args in
     access_miss (machine64 a.z) a.map.now a.p a.a a.request (state_of a.words.now (shadow_of a.pool.now a.records.now) a.slots.now)
     c.page_of-page.ensures c.request_of-q.ensures c.serving_slot-k.ensures c.if-k-lt-SLOTS.false
-    c.path_to-w.result _ _ c.path_to-w.ensures (index_is (goal.at.returns c).After-index_of) c.entry_at-e.ensures
+    c.path_to-w.result _ _ c.path_to-w.ensures (index_is (goal.at.returns c).After-index_of (on-path (goal.at.returns c).After-path_to-w)) c.entry_at-e.ensures
     (sym c.path_serves.ensures ∙ c.if-path_serves.false)
     c.miss.ensures

@@ -22,7 +22,8 @@ cr3-small c =
 range : (c : After-walk_guest) → InRange (2 ^ 40) c.walk_guest.result
 range c =
     let a = c.args in
-    guest_range tables64 a.z.frames a.page (2 ^ 40) (omega (arith, c.requires.ready.sized.frames)) a.words.now c.shadowed_by-cr3.result (cr3-small c) c.walk_guest.ensures
+    guest_range tables64 a.z.frames a.page (2 ^ 40) (omega (arith, c.requires.ready.sized.frames)) a.words.now c.shadowed_by-cr3.result
+    (omega (arith, ap (λ (g : Guest). g.0) (c.shadowed_by-cr3.ensures ∙ ap (shadows a.records.now) c.root_of.ensures), c.requires.ready.cr3)) c.walk_guest.ensures
 
 whole-range : (c : After-walk_guest) (last : Guest) (w : Walk) → c.walk_guest.result ≡ Whole last w → (last.0 < 2 ^ 40) × (w.rights < 8)
 whole-range c last w q = rw q at (range c)

@@ -20,7 +20,7 @@ from-top : (c : After-shadowed_by-cr3) → SpotFits c.args.z (spot 3 c.root_of-r
 from-top c =
     record {
       missing = omega arith;
-      table = root-within c;
+      table = omega (arith, c.root_of-root.ensures, root_small c.requires.sized c.args.p c.requires.own);
       frame = omega (arith, ap (λ (g : Guest). g.0) (c.shadowed_by-cr3.ensures ∙ ap (shadows c.args.records.now) c.root_of-root.ensures), c.requires.cr3);
     }
 
@@ -31,28 +31,31 @@ room_settled c = record { sized = c.requires.sized; pairs = c.settle-w.auto.reco
 on-table : (c : After-settle-w) → SpotFits c.args.z c.settle-w.result
 on-table c =
     let a = c.args in
-    let top = from-top c in
+    let top : SpotFits a.z (spot 3 c.root_of-root.result c.shadowed_by-cr3.result) = record {
+      missing = omega arith;
+      table = omega (arith, c.root_of-root.ensures, root_small c.requires.sized c.args.p c.requires.own);
+      frame = omega (arith, ap (λ (g : Guest). g.0) (c.shadowed_by-cr3.ensures ∙ ap (shadows a.records.now) c.root_of-root.ensures), c.requires.cr3);
+    } in
     subst⁻¹ (SpotFits a.z) (ap (λ (d : Settled). d.spot) c.settle-w.ensures)
     (settled_spot a.z a.words.now a.page 3 c.root_of-root.result c.shadowed_by-cr3.result (shadow_of a.pool.now a.records.now) top.missing top.table top.frame)
 
 -- the share that was emptied
 room-emptied : (c : After-empty_share) → Room c.args.z c.empty_share.new.records
 room-emptied c =
-    let room = room_settled c in
-    record { sized = room.sized; pairs = c.empty_share.auto.records ∙ room.pairs }
+    record { sized = c.requires.sized; pairs = c.empty_share.auto.records ∙ c.settle-w.auto.records ∙ c.requires.pairs }
 
 three : (c : After-empty_share) → 3 ≤ free_count (machine64 c.args.z) c.args.p c.empty_share.new.records
 three c =
     let M = machine64 c.args.z in
-    let h = c.settle-w.new.pool in
+    let h = c.settle-w.new in
     omega (
       arith,
       ap (λ (h : Shadow). free_count M c.args.p h.records) c.empty_share.ensures,
-      enough_free M c.requires.sized.some c.requires.spare c.args.p c.requires.own (shadow_of h.0 h.1.0),
+      enough_free M c.requires.sized.some c.requires.spare c.args.p c.requires.own (shadow_of h.pool h.records),
     )
 
 pub shadowed_by-cr3-requires : goal.shadowed_by-cr3-requires
-shadowed_by-cr3-requires c = omega (arith, root-within (goal.at.shadowed_by-cr3-requires c).After-slice_known-3-1, few c.requires.sized)
+shadowed_by-cr3-requires c = omega (arith, root-within (goal.at.shadowed_by-cr3-requires c).After-root_of-root, few c.requires.sized)
 
 pub settle-w-requires : goal.settle-w-requires
 settle-w-requires c = record { room = search; spot_fits = from-top (goal.at.settle-w-requires c).After-shadowed_by-cr3 }

@@ -3,30 +3,27 @@ use mathlib.Core.Path.{sym, ◌∙◌}
 use mathlib.Core.List.{[]}
 use native.Mathlib.Omega.{arith}
 use borrow.Author.Tests.{not-true, not-false}
-use Rattle.tables.specs.State.{State, shadow_of, state_of, machine64}
+use Rattle.tables.specs.State.{shadow_of, state_of, machine64}
 use Rattle.shadow.proofs.Accepted.{call_early, call_sized, call_triples, call_unlawful, call_event, call_few, call_accepted}
 use Rattle.tables.specs.SizesCode.{Sized}
 use Rattle.shadow.proofs.refusals.call_refusal.Goals as goal
 use Rattle.shadow.proofs.refusals.call_refusal.Goals.{Else-n-ne0}
 
-abbrev entry : tie.Start → State
-entry c = let a = c.args in state_of a.words.now (shadow_of a.pool.now a.records.now) a.slots.now
-
 sized : (c : Else-n-ne0) → Sized c.args.z
 sized c =
     let a = c.args in
-    call_sized a.z a.map.now (entry c) a.e c.words_fit-fits.ensures (sym c.if-n-ne0.false ∙ c.buffers_refusal-n.ensures)
+    call_sized a.z a.map.now (state_of a.words.now (shadow_of a.pool.now a.records.now) a.slots.now) a.e c.words_fit-fits.ensures (sym c.if-n-ne0.false ∙ c.buffers_refusal-n.ensures)
 
 pub returns-then-n-ne0 : goal.returns-then-n-ne0
-returns-then-n-ne0 c = let a = c.args in call_early (machine64 a.z) a.map.now (entry (goal.at.returns-then-n-ne0 c).Start) a.e c.words_fit-fits.ensures c.buffers_refusal-n.ensures c.if-n-ne0.true
+returns-then-n-ne0 c = let a = c.args in call_early (machine64 a.z) a.map.now (state_of a.words.now (shadow_of a.pool.now a.records.now) a.slots.now) a.e c.words_fit-fits.ensures c.buffers_refusal-n.ensures c.if-n-ne0.true
 
 pub is_lawful-requires : goal.is_lawful-requires
-is_lawful-requires c = let a = c.args in (sized c, omega (arith, call_triples (machine64 a.z) a.map.now (entry (goal.at.is_lawful-requires c).Start) a.e c.words_fit-fits.ensures (sym c.if-n-ne0.false ∙ c.buffers_refusal-n.ensures)))
+is_lawful-requires c = let a = c.args in (sized (goal.at.is_lawful-requires c).Else-n-ne0, omega (arith, call_triples (machine64 a.z) a.map.now (state_of a.words.now (shadow_of a.pool.now a.records.now) a.slots.now) a.e c.words_fit-fits.ensures (sym c.if-n-ne0.false ∙ c.buffers_refusal-n.ensures)))
 
 pub returns-then-not-is_lawful : goal.returns-then-not-is_lawful
 returns-then-not-is_lawful c =
     let a = c.args in
-    call_unlawful (machine64 a.z) a.map.now (entry (goal.at.returns-then-not-is_lawful c).Start) a.e c.words_fit-fits.ensures (sym c.if-n-ne0.false ∙ c.buffers_refusal-n.ensures)
+    call_unlawful (machine64 a.z) a.map.now (state_of a.words.now (shadow_of a.pool.now a.records.now) a.slots.now) a.e c.words_fit-fits.ensures (sym c.if-n-ne0.false ∙ c.buffers_refusal-n.ensures)
     (sym (c.is_lawful.ensures a.words.now) ∙ c.if-not-is_lawful.true)
 
 pub event_refusal-m-requires : goal.event_refusal-m-requires
@@ -35,7 +32,7 @@ event_refusal-m-requires c = (sized (goal.at.event_refusal-m-requires c).Else-n-
 pub returns-then-m-ne0 : goal.returns-then-m-ne0
 returns-then-m-ne0 c =
     let a = c.args in
-    call_event (machine64 a.z) a.map.now (entry (goal.at.returns-then-m-ne0 c).Start) a.e c.words_fit-fits.ensures (sym c.if-n-ne0.false ∙ c.buffers_refusal-n.ensures)
+    call_event (machine64 a.z) a.map.now (state_of a.words.now (shadow_of a.pool.now a.records.now) a.slots.now) a.e c.words_fit-fits.ensures (sym c.if-n-ne0.false ∙ c.buffers_refusal-n.ensures)
     (sym (c.is_lawful.ensures a.words.now) ∙ c.if-not-is_lawful.false)
     (c.event_refusal-m.ensures a.words.now []) c.if-m-ne0.true
 
@@ -45,13 +42,13 @@ overflow_sub-z c = omega (arith, (sized (goal.at.overflow_sub-z c).Else-n-ne0).s
 pub returns-then-z-lt3 : goal.returns-then-z-lt3
 returns-then-z-lt3 c =
     let a = c.args in
-    call_few (machine64 a.z) a.map.now (entry (goal.at.returns-then-z-lt3 c).Start) a.e c.words_fit-fits.ensures (sym c.if-n-ne0.false ∙ c.buffers_refusal-n.ensures)
+    call_few (machine64 a.z) a.map.now (state_of a.words.now (shadow_of a.pool.now a.records.now) a.slots.now) a.e c.words_fit-fits.ensures (sym c.if-n-ne0.false ∙ c.buffers_refusal-n.ensures)
     (sym (c.is_lawful.ensures a.words.now) ∙ c.if-not-is_lawful.false)
     (sym c.if-m-ne0.false ∙ c.event_refusal-m.ensures a.words.now []) c.if-z-lt3.true
 
 pub returns : goal.returns
 returns c =
     let a = c.args in
-    call_accepted (machine64 a.z) a.map.now (entry (goal.at.returns c).Start) a.e c.words_fit-fits.ensures (sym c.if-n-ne0.false ∙ c.buffers_refusal-n.ensures)
+    call_accepted (machine64 a.z) a.map.now (state_of a.words.now (shadow_of a.pool.now a.records.now) a.slots.now) a.e c.words_fit-fits.ensures (sym c.if-n-ne0.false ∙ c.buffers_refusal-n.ensures)
     (sym (c.is_lawful.ensures a.words.now) ∙ c.if-not-is_lawful.false)
     (sym c.if-m-ne0.false ∙ c.event_refusal-m.ensures a.words.now []) c.if-z-lt3.false
