@@ -1,8 +1,9 @@
 // Every permitted outcome of each question of the puzzle that is read.
 #![tactic(auto)]
 
+use std::process::ExitCode;
 use trainer::Program;
 
-fn main() {
-    terminal::serve(Program::Answers);
+fn main(rt: HostRuntime) -> ExitCode {
+    terminal::serve(&rt, Program::Answers)
 }

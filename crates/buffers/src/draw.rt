@@ -15,47 +15,39 @@ fn byte(x: u64) -> u8 {
 
 pub fn fill(xs: &mut [u64], seed: u64) {
     let mut x = seed;
-    let mut i = 0;
-    while i < xs.len() {
+    for place in xs.iter_mut() {
         x = next(x);
-        xs[i] = x;
-        i += 1;
+        *place = x;
     }
 }
 
 pub fn fill_bytes(xs: &mut [u8], seed: u64) {
     let mut x = seed;
-    let mut i = 0;
-    while i < xs.len() {
+    for place in xs.iter_mut() {
         x = next(x);
-        xs[i] = byte(x);
-        i += 1;
+        *place = byte(x);
     }
 }
 
 // Whether what was filled is still there, from the given place on.
 pub fn holds(xs: &[u64], from: usize, seed: u64) -> bool {
     let mut x = seed;
-    let mut i = 0;
-    while i < xs.len() {
+    for i in 0..xs.len() {
         x = next(x);
         if i >= from && xs[i] != x {
             return false;
         }
-        i += 1;
     }
     true
 }
 
 pub fn holds_bytes(xs: &[u8], from: usize, seed: u64) -> bool {
     let mut x = seed;
-    let mut i = 0;
-    while i < xs.len() {
+    for i in 0..xs.len() {
         x = next(x);
         if i >= from && xs[i] != byte(x) {
             return false;
         }
-        i += 1;
     }
     true
 }

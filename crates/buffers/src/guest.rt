@@ -63,31 +63,25 @@ fn number_at(place: usize, kind: u64, h: u64) -> u64 {
 pub fn put_events(events: &mut [u64]) {
     let mut x = 1;
     let mut kind = 1;
-    let mut i = 0;
-    while i < events.len() {
+    for (i, number) in events.iter_mut().enumerate() {
         x = next(x);
         kind = kind_at(i % 4, kind, high(x));
-        events[i] = number_at(i % 4, kind, high(x));
-        i += 1;
+        *number = number_at(i % 4, kind, high(x));
     }
 }
 
 pub fn put_entries(words: &mut [u64]) {
     let mut x = 6;
-    let mut i = 0;
-    while i < words.len() {
+    for word in words.iter_mut() {
         x = next(x);
-        words[i] = entry(high(x));
-        i += 1;
+        *word = entry(high(x));
     }
 }
 
 pub fn put_map(map: &mut [u64]) {
     let mut f: u64 = MAP_BASE;
-    let mut i = 0;
-    while i < map.len() {
-        map[i] = f;
-        f = std::num::wrapping_add_u64(f, 1);
-        i += 1;
+    for frame in map.iter_mut() {
+        *frame = f;
+        f = f.wrapping_add(1);
     }
 }

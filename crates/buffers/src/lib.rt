@@ -1,75 +1,93 @@
-// Buffers of numbers, for the programs of the gate: put, drawn, copied, compared, summed and printed.
+// Buffers of numbers, for the programs of the gate: put, drawn, copied, compared, summed and printed; and filled from input.
 #![tactic(auto)]
 
 pub mod draw;
 pub mod guest;
 
-use libc::STDOUT_FILENO;
+ghost use Rattle.std.specs.Prelude.{◌≤◌, length, IfOk};
 
-pub fn print(s: &[u8]) {
-    io::write_all(STDOUT_FILENO, s);
+use std::io;
+use std::io::{ErrorKind, Read};
+
+pub fn print(rt: &impl Print, s: &[u8]) -> io::Result<()> {
+    rt.write_all(s)
 }
 
-pub fn print_number(n: u64) {
-    print(b" ");
-    io::print_decimal(STDOUT_FILENO, n);
+pub fn print_number(rt: &impl Print, n: u64) -> io::Result<()> {
+    print!(rt; " {n}")
 }
 
-pub fn print_numbers(xs: &[u64]) {
-    let mut i = 0;
-    while i < xs.len() {
-        print_number(xs[i]);
-        i += 1;
+pub fn print_numbers(rt: &impl Print, xs: &[u64]) -> io::Result<()> {
+    for x in xs {
+        print_number(rt, *x)?;
     }
+    Ok(())
 }
 
-fn print_pair(tag: u64, value: u64) {
-    print(b" (");
-    io::print_decimal(STDOUT_FILENO, tag);
-    print_number(value);
-    print(b")");
+fn print_pair(rt: &impl Print, tag: u64, value: u64) -> io::Result<()> {
+    print!(rt; " ({tag} {value})")
 }
 
 // The pairs that count, and no more than there are.
-pub fn print_pairs(count: u64, xs: &[u64]) {
-    let n = xs.len() / 2;
-    let mut k = 0;
-    while k < n {
+pub fn print_pairs(rt: &impl Print, count: u64, xs: &[u64]) -> io::Result<()> {
+    for k in 0..xs.len() / 2 {
         if k as u64 >= count {
-            return;
+            return Ok(());
         }
-        print_pair(xs[2 * k], xs[2 * k + 1]);
-        k += 1;
+        print_pair(rt, xs[2 * k], xs[2 * k + 1])?;
     }
+    Ok(())
 }
 
 // Place k if its byte is 1; ? if it is neither 0 nor 1.
-fn print_mark(k: u64, byte: u8) {
+fn print_mark(rt: &impl Print, k: u64, byte: u8) -> io::Result<()> {
     if byte == 1 {
-        print_number(k);
+        return print_number(rt, k);
     }
     if byte > 1 {
-        print(b" ?");
+        return print(rt, b" ?");
     }
+    Ok(())
 }
 
-pub fn print_marks(bytes: &[u8], end: usize) {
-    let mut k = 0;
-    while k < bytes.len() {
+pub fn print_marks(rt: &impl Print, bytes: &[u8], end: usize) -> io::Result<()> {
+    for (k, byte) in bytes.iter().enumerate() {
         if k >= end {
-            return;
+            return Ok(());
         }
-        print_mark(k as u64, bytes[k]);
-        k += 1;
+        print_mark(rt, k as u64, *byte)?;
     }
+    Ok(())
 }
 
-pub fn print_either(first: bool, a: &[u8], b: &[u8]) {
+pub fn print_either(rt: &impl Print, first: bool, a: &[u8], b: &[u8]) -> io::Result<()> {
     if first {
-        print(a);
-        return;
+        return print(rt, a);
     }
-    print(b);
+    print(rt, b)
+}
+
+// Reads until the buffer is full or the input ends, and says how many bytes it put at the start. A read that a signal cut
+// short is tried again; one that fails is an error, and never the end of the text.
+pub fn read_full<R: Read>(reader: &mut R, to: &mut [u8]) -> io::Result<usize>
+    ensures { IfOk result (λ n. n ≤ length to.new) }
+{
+    let mut at = 0;
+    for _ in 0..u64::MAX {
+        if at >= to.len() {
+            return Ok(at);
+        }
+        match reader.read(&mut to[at..]) {
+            Ok(0) => return Ok(at),
+            Ok(n) => at += n,
+            Err(e) => {
+                if e.kind() != ErrorKind::Interrupted {
+                    return Err(e);
+                }
+            }
+        }
+    }
+    Err(io::Error::from(ErrorKind::Interrupted))
 }
 
 // What stands at a place, and 0 beyond the end.
@@ -88,53 +106,41 @@ fn put(xs: &mut [u64], i: u64, x: u64) {
 
 // Puts places and values, one after the other, as a puzzle text lists words.
 pub fn put_pairs(xs: &mut [u64], pairs: &[u64]) {
-    let n = pairs.len() / 2;
-    let mut k = 0;
-    while k < n {
+    for k in 0..pairs.len() / 2 {
         put(xs, pairs[2 * k], pairs[2 * k + 1]);
-        k += 1;
     }
 }
 
 // As much of xs as there is room for.
 pub fn copy(to: &mut [u64], xs: &[u64]) {
-    let mut i = 0;
-    while i < xs.len() {
-        if i >= to.len() {
-            return;
-        }
-        to[i] = xs[i];
-        i += 1;
+    for (place, x) in to.iter_mut().zip(xs) {
+        *place = *x;
     }
 }
 
 // Whether all of xs stands at the beginning of old.
 pub fn begins(old: &[u64], xs: &[u64]) -> bool {
-    let mut i = 0;
-    while i < xs.len() {
+    for i in 0..xs.len() {
         if i >= old.len() {
             return false;
         }
         if old[i] != xs[i] {
             return false;
         }
-        i += 1;
     }
     true
 }
 
 // Three times the sum so far and the next element, so that each place counts.
 fn summed(total: u64, x: u64) -> u64 {
-    let twice = std::num::wrapping_add_u64(total, total);
-    std::num::wrapping_add_u64(std::num::wrapping_add_u64(twice, total), x)
+    let twice = total.wrapping_add(total);
+    twice.wrapping_add(total).wrapping_add(x)
 }
 
 pub fn sum(xs: &[u64]) -> u64 {
     let mut total: u64 = 0;
-    let mut i = 0;
-    while i < xs.len() {
-        total = summed(total, xs[i]);
-        i += 1;
+    for x in xs {
+        total = summed(total, *x);
     }
     total
 }
@@ -145,10 +151,8 @@ fn wide(x: u8) -> u64 {
 
 pub fn sum_bytes(xs: &[u8]) -> u64 {
     let mut total: u64 = 0;
-    let mut i = 0;
-    while i < xs.len() {
-        total = summed(total, wide(xs[i]));
-        i += 1;
+    for x in xs {
+        total = summed(total, wide(*x));
     }
     total
 }

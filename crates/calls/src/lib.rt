@@ -7,6 +7,7 @@ ghost use Rattle.std.specs.Prelude.{◌≤◌, ◌≡◌, length};
 use buffers::{at, begins, copy, print, print_number};
 use rules::Event;
 use shadow::Answer;
+use std::io;
 use tables::Sizes;
 
 // Where each buffer begins in the state: what is given (9 numbers), map, words, pool, records, slots.
@@ -23,16 +24,15 @@ pub const SLOTS: usize = 13367;
 pub const END: usize = 13487;
 
 // "refusal, kind, value", and whether all buffers are as they were.
-fn print_answer(r: Answer, kept: bool) {
-    print(b":");
-    print_number(shadow::refusal_of(r));
-    print_number(shadow::kind_of(r));
-    print_number(shadow::value_of(r));
+fn print_answer(rt: &impl Print, r: Answer, kept: bool) -> io::Result<()> {
+    print(rt, b":")?;
+    print_number(rt, shadow::refusal_of(r))?;
+    print_number(rt, shadow::kind_of(r))?;
+    print_number(rt, shadow::value_of(r))?;
     if kept {
-        print(b" unchanged");
-        return;
+        return print(rt, b" unchanged");
     }
-    print(b" changed");
+    print(rt, b" changed")
 }
 
 fn sizes_of(given: &[u64]) -> Sizes {
@@ -133,6 +133,7 @@ fn answer(
 }
 
 fn show_answer(
+    rt: &impl Print,
     c: u8,
     numbers: &[u64],
     state: &[u64],
@@ -140,7 +141,7 @@ fn show_answer(
     pool: &mut [u64],
     records: &mut [u64],
     slots: &mut [u64],
-)
+) -> io::Result<()>
     requires { length state.now ≡ 13487 }
 {
     let end = MAP + part(state, 4, 6);
@@ -154,10 +155,11 @@ fn show_answer(
         slots,
         sizes_of(state),
     );
-    print_answer(r, kept(state, words, pool, records, slots));
+    print_answer(rt, r, kept(state, words, pool, records, slots))
 }
 
 fn cut(
+    rt: &impl Print,
     c: u8,
     numbers: &[u64],
     state: &[u64],
@@ -165,7 +167,7 @@ fn cut(
     pool: &mut [u64],
     records: &mut [u64],
     slots: &mut [u64],
-)
+) -> io::Result<()>
     requires { length state.now ≡ 13487 }
 {
     let w = part(state, 5, words.len());
@@ -173,6 +175,7 @@ fn cut(
     let r = part(state, 7, records.len());
     let s = part(state, 8, slots.len());
     show_answer(
+        rt,
         c,
         numbers,
         state,
@@ -180,10 +183,11 @@ fn cut(
         &mut pool[..t],
         &mut records[..r],
         &mut slots[..s],
-    );
+    )
 }
 
 fn put_in(
+    rt: &impl Print,
     c: u8,
     numbers: &[u64],
     state: &mut [u64],
@@ -191,14 +195,15 @@ fn put_in(
     pool: &mut [u64],
     records: &mut [u64],
     slots: &mut [u64],
-)
+) -> io::Result<()>
     requires { length state.old ≡ 13487 }
 {
-    cut(c, numbers, state, words, pool, records, slots);
+    cut(rt, c, numbers, state, words, pool, records, slots)?;
     give(state, words, pool, records, slots);
+    Ok(())
 }
 
-pub fn put(c: u8, numbers: &[u64], state: &mut [u64])
+pub fn put(rt: &impl Print, c: u8, numbers: &[u64], state: &mut [u64]) -> io::Result<()>
     requires { length state.old ≡ 13487 }
 {
     let mut words = [0u64; 3072];
@@ -207,6 +212,7 @@ pub fn put(c: u8, numbers: &[u64], state: &mut [u64])
     let mut slots = [0u64; 120];
     take(state, &mut words, &mut pool, &mut records, &mut slots);
     put_in(
+        rt,
         c,
         numbers,
         state,
@@ -214,5 +220,5 @@ pub fn put(c: u8, numbers: &[u64], state: &mut [u64])
         &mut pool,
         &mut records,
         &mut slots,
-    );
+    )
 }

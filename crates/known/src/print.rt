@@ -2,6 +2,7 @@
 use buffers::{print, print_number};
 use listing::Listed;
 use rules::Question;
+use std::io;
 
 pub fn refusal_of(r: Listed) -> u64 {
     match r {
@@ -18,15 +19,16 @@ fn count_of(r: Listed) -> u64 {
 }
 
 // The number of the refusal, the count and the pairs.
-fn answer(r: Listed, outcomes: &[u64]) {
+fn answer(rt: &impl Print, r: Listed, outcomes: &[u64]) -> io::Result<()> {
     let count = count_of(r);
-    print_number(refusal_of(r));
-    print_number(count);
-    buffers::print_pairs(count, outcomes);
-    print(b"\n");
+    print_number(rt, refusal_of(r))?;
+    print_number(rt, count)?;
+    buffers::print_pairs(rt, count, outcomes)?;
+    print(rt, b"\n")
 }
 
 pub fn listed(
+    rt: &impl Print,
     map: &[u64],
     words: &mut [u64],
     cr3s: &[u64],
@@ -34,11 +36,11 @@ pub fn listed(
     work: &mut [u8],
     outcomes: &mut [u64],
     q: Question,
-) {
+) -> io::Result<()> {
     let r = listing::list(map, words, cr3s, events, work, outcomes, q);
-    answer(r, outcomes);
+    answer(rt, r, outcomes)
 }
 
-pub fn kept(same: bool) {
-    buffers::print_either(same, b" unchanged\n", b" changed\n");
+pub fn kept(rt: &impl Print, same: bool) -> io::Result<()> {
+    buffers::print_either(rt, same, b" unchanged\n", b" changed\n")
 }

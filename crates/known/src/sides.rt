@@ -4,6 +4,7 @@ use crate::print;
 use buffers::{draw, print_numbers};
 use listing::Listed;
 use rules::Question;
+use std::io;
 
 const MAP: [u64; 6] = [100, 101, 102, 103, 104, 105];
 
@@ -127,14 +128,21 @@ pub fn ask(proc: u64, addr: u64, request: u64) -> Question {
     }
 }
 
-fn show_refusal(r: Listed, words: &[u64], work: &[u8], outcomes: &[u64]) {
-    buffers::print(b":");
-    buffers::print_number(print::refusal_of(r));
-    print::kept(draw::all_hold(words, work, outcomes));
+fn show_refusal(
+    rt: &impl Print,
+    r: Listed,
+    words: &[u64],
+    work: &[u8],
+    outcomes: &[u64],
+) -> io::Result<()> {
+    buffers::print(rt, b":")?;
+    buffers::print_number(rt, print::refusal_of(r))?;
+    print::kept(rt, draw::all_hold(words, work, outcomes))
 }
 
 // Calls on buffers full of drawn numbers, so that a change of any element shows.
 fn show_in(
+    rt: &impl Print,
     map: &[u64],
     words: &mut [u64],
     cr3s: &[u64],
@@ -142,84 +150,98 @@ fn show_in(
     work: &mut [u8],
     outcomes: &mut [u64],
     q: Question,
-) {
+) -> io::Result<()> {
     draw::fill_all(words, work, outcomes);
     let r = listing::list(map, words, cr3s, events, work, outcomes, q);
-    show_refusal(r, words, work, outcomes);
+    show_refusal(rt, r, words, work, outcomes)
 }
 
-fn show_call(map: &[u64], cr3s: &[u64], events: &[u64], q: Question) {
+fn show_call(
+    rt: &impl Print,
+    map: &[u64],
+    cr3s: &[u64],
+    events: &[u64],
+    q: Question,
+) -> io::Result<()> {
     let mut words = [0u64; 3072];
     let mut work = [0u8; 300];
     let mut outcomes = [0u64; 24];
-    show_in(map, &mut words, cr3s, events, &mut work, &mut outcomes, q);
+    show_in(
+        rt,
+        map,
+        &mut words,
+        cr3s,
+        events,
+        &mut work,
+        &mut outcomes,
+        q,
+    )
 }
 
-fn show_event(e: &[u64]) {
-    buffers::print(b"event");
-    print_numbers(e);
-    show_call(&MAP, &CR3S, e, ask(0, 8, 0));
+fn show_event(rt: &impl Print, e: &[u64]) -> io::Result<()> {
+    buffers::print(rt, b"event")?;
+    print_numbers(rt, e)?;
+    show_call(rt, &MAP, &CR3S, e, ask(0, 8, 0))
 }
 
 // The event, then one that would be refused with 4, and a question that would be.
-fn show_faulty(e: &[u64]) {
+fn show_faulty(rt: &impl Print, e: &[u64]) -> io::Result<()> {
     let mut events = [0, 0, 0, 0, 1, 1, 0, 0];
     buffers::copy(&mut events, e);
-    buffers::print(b"faulty event");
-    print_numbers(e);
-    show_call(&MAP, &CR3S, &events, ask(1, 8, 0));
+    buffers::print(rt, b"faulty event")?;
+    print_numbers(rt, e)?;
+    show_call(rt, &MAP, &CR3S, &events, ask(1, 8, 0))
 }
 
-fn show_either(e: &[u64], faulty: bool) {
+fn show_either(rt: &impl Print, e: &[u64], faulty: bool) -> io::Result<()> {
     if faulty {
-        show_faulty(e);
-        return;
+        return show_faulty(rt, e);
     }
-    show_event(e);
+    show_event(rt, e)
 }
 
-fn show_events(events: &[u64], faulty: bool) {
+fn show_events(rt: &impl Print, events: &[u64], faulty: bool) -> io::Result<()> {
     let n = events.len() / 4;
-    let mut k = 0;
-    while k < n {
-        show_either(&events[4 * k..4 * k + 4], faulty);
-        k += 1;
+    for k in 0..n {
+        show_either(rt, &events[4 * k..4 * k + 4], faulty)?;
     }
+    Ok(())
 }
 
 // The question after events that are all fine.
-fn show_question(q: &[u64]) {
-    buffers::print(b"question");
-    print_numbers(q);
+fn show_question(rt: &impl Print, q: &[u64]) -> io::Result<()> {
+    buffers::print(rt, b"question")?;
+    print_numbers(rt, q)?;
     show_call(
+        rt,
         &MAP,
         &CR3S,
         &[0, 1, 0, 1, 0, 7, 0, 0],
         ask(buffers::at(q, 0), buffers::at(q, 1), buffers::at(q, 2)),
-    );
+    )
 }
 
-fn show_questions(qs: &[u64]) {
+fn show_questions(rt: &impl Print, qs: &[u64]) -> io::Result<()> {
     let n = qs.len() / 3;
-    let mut k = 0;
-    while k < n {
-        show_question(&qs[3 * k..3 * k + 3]);
-        k += 1;
+    for k in 0..n {
+        show_question(rt, &qs[3 * k..3 * k + 3])?;
     }
+    Ok(())
 }
 
-pub fn show_sides() {
-    show_events(&EVENTS, false);
-    show_questions(&QUESTIONS);
+pub fn show_sides(rt: &impl Print) -> io::Result<()> {
+    show_events(rt, &EVENTS, false)?;
+    show_questions(rt, &QUESTIONS)
 }
 
 // Everything is wrong at first; then one fault less at each call.
-fn show_sizes() {
+fn show_sizes(rt: &impl Print) -> io::Result<()> {
     let mut words = [0u64; 3072];
     let mut work = [0u8; 239];
     let mut outcomes = [0u64; 24];
-    buffers::print(b"short work, repeated map frame, CR3, event, question");
+    buffers::print(rt, b"short work, repeated map frame, CR3, event, question")?;
     show_in(
+        rt,
         &REPEATED,
         &mut words,
         &[6],
@@ -227,28 +249,35 @@ fn show_sizes() {
         &mut work,
         &mut outcomes,
         ask(1, LOW_END, 6),
-    );
+    )
 }
 
-fn show_wrong(label: &[u8], map: &[u64], cr3s: &[u64], events: &[u64]) {
-    buffers::print(label);
-    show_call(map, cr3s, events, ask(1, LOW_END, 6));
+fn show_wrong(
+    rt: &impl Print,
+    label: &[u8],
+    map: &[u64],
+    cr3s: &[u64],
+    events: &[u64],
+) -> io::Result<()> {
+    buffers::print(rt, label)?;
+    show_call(rt, map, cr3s, events, ask(1, LOW_END, 6))
 }
 
-fn show_first() {
-    show_sizes();
+fn show_first(rt: &impl Print) -> io::Result<()> {
+    show_sizes(rt)?;
     show_wrong(
+        rt,
         b"repeated map frame, CR3, event, question",
         &REPEATED,
         &[6],
         &WRONG,
-    );
-    show_wrong(b"CR3, event, question", &MAP, &[6], &WRONG);
+    )?;
+    show_wrong(rt, b"CR3, event, question", &MAP, &[6], &WRONG)
 }
 
-pub fn show_refusals() {
-    show_first();
-    show_events(&FAULTY, true);
-    show_wrong(b"second event, question", &MAP, &CR3S, &SECOND);
-    show_questions(&LATER);
+pub fn show_refusals(rt: &impl Print) -> io::Result<()> {
+    show_first(rt)?;
+    show_events(rt, &FAULTY, true)?;
+    show_wrong(rt, b"second event, question", &MAP, &CR3S, &SECOND)?;
+    show_questions(rt, &LATER)
 }

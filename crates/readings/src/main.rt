@@ -5,29 +5,28 @@
 
 ghost use Rattle.std.specs.Prelude.{◌≤◌, length};
 
-use buffers::{print, print_number, sum};
+use buffers::{print, print_number, read_full, sum};
 use puzzle::ReadResult;
+use std::io;
 
 fn find(s: &[u8], from: usize, b: u8) -> usize
     requires { from ≤ length s.now }
     ensures { (from ≤ result) × (result ≤ length s.now) }
 {
-    let mut i = from;
-    while i < s.len() {
+    for i in from..s.len() {
         if s[i] == b {
             return i;
         }
-        i += 1;
     }
-    i
+    s.len()
 }
 
-fn print_result(r: ReadResult) {
+fn print_result(rt: &impl Print, r: ReadResult) -> io::Result<()> {
     match r {
         ReadResult::Refused(number, line) => {
-            print(b": R");
-            print_number(number);
-            print_number(line);
+            print(rt, b": R")?;
+            print_number(rt, number)?;
+            print_number(rt, line)
         }
         ReadResult::Accepted {
             frames,
@@ -36,17 +35,17 @@ fn print_result(r: ReadResult) {
             events,
             questions,
         } => {
-            print(b": A");
-            print_number(frames);
-            print_number(processors);
-            print_number(words);
-            print_number(events);
-            print_number(questions);
+            print(rt, b": A")?;
+            print_number(rt, frames)?;
+            print_number(rt, processors)?;
+            print_number(rt, words)?;
+            print_number(rt, events)?;
+            print_number(rt, questions)
         }
     }
 }
 
-fn show(label: &[u8], text: &[u8]) {
+fn show(rt: &impl Print, label: &[u8], text: &[u8]) -> io::Result<()> {
     let mut map = [7u64; 16];
     let mut cr3s = [7u64; 4];
     let mut words = [7u64; 8192];
@@ -60,32 +59,33 @@ fn show(label: &[u8], text: &[u8]) {
         &mut events,
         &mut questions,
     );
-    print(label);
-    print_result(r);
-    print(b" ;");
-    print_number(sum(&map));
-    print_number(sum(&cr3s));
-    print_number(sum(&words));
-    print_number(sum(&events));
-    print_number(sum(&questions));
+    print(rt, label)?;
+    print_result(rt, r)?;
+    print(rt, b" ;")?;
+    print_number(rt, sum(&map))?;
+    print_number(rt, sum(&cr3s))?;
+    print_number(rt, sum(&words))?;
+    print_number(rt, sum(&events))?;
+    print_number(rt, sum(&questions))
 }
 
-fn show_all(s: &[u8]) {
+fn show_all(rt: &impl Print, s: &[u8]) -> io::Result<()> {
     let mut at = 0;
     while at < s.len() {
         let eq = find(s, at, b'=');
         if eq >= s.len() {
-            return;
+            return Ok(());
         }
         let text = eq + 1;
         let end = find(s, text, b'|');
-        show(&s[at..eq], &s[text..end]);
+        show(rt, &s[at..eq], &s[text..end])?;
         at = end + 1;
     }
+    Ok(())
 }
 
 // Buffers that are too short are refused before the text is looked at.
-fn show_short(text: &[u8]) {
+fn show_short(rt: &impl Print, text: &[u8]) -> io::Result<()> {
     let mut map = [7u64; 15];
     let mut cr3s = [7u64; 4];
     let mut words = [7u64; 8192];
@@ -99,16 +99,16 @@ fn show_short(text: &[u8]) {
         &mut events,
         &mut questions,
     );
-    print(b"\na map of 15");
-    print_result(r);
+    print(rt, b"\na map of 15")?;
+    print_result(rt, r)
 }
 
-fn main() {
-    let mut input = io::large_buffer();
-    let n = io::read_full(libc::STDIN_FILENO, &mut input);
-    show_all(&input[..n]);
-    show(b"\n65,536 line feeds", &[10u8; 65536]);
-    show(b"\n65,537 line feeds", &[10u8; 65537]);
-    show_short(b"x");
-    print(b"\n");
+fn main(rt: HostRuntime) -> io::Result<()> {
+    let mut input = [0u8; 65536];
+    let n = read_full(&mut rt.reader(), &mut input)?;
+    show_all(&rt, &input[..n])?;
+    show(&rt, b"\n65,536 line feeds", &[10u8; 65536])?;
+    show(&rt, b"\n65,537 line feeds", &[10u8; 65537])?;
+    show_short(&rt, b"x")?;
+    print(&rt, b"\n")
 }

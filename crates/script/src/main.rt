@@ -11,6 +11,8 @@ mod text;
 
 ghost use Rattle.std.specs.Prelude.{◌≤◌, ◌≡◌, length};
 
+use std::io;
+
 #[derive(Clone, Copy)]
 struct Part {
     from: usize,
@@ -78,72 +80,73 @@ fn set(c: u8, numbers: &[u64], state: &mut [u64])
     put_numbers(c, numbers, &mut state[from..to]);
 }
 
-fn show(c: u8, places: &[u64], state: &[u64])
+fn show(rt: &impl Print, c: u8, places: &[u64], state: &[u64]) -> io::Result<()>
     requires { length state.now ≡ 13487 }
 {
     let part = part_of(c);
     let from = part.from;
     let to = part.to;
-    text::print_places(&state[from..to], places);
+    text::print_places(rt, &state[from..to], places)
 }
 
 // A line that is printed: a call, places to show, or a heading.
-fn speak(c: u8, numbers: &[u64], state: &mut [u64])
+fn speak(rt: &impl Print, c: u8, numbers: &[u64], state: &mut [u64]) -> io::Result<()>
     requires { length state.old ≡ 13487 }
 {
     if c == b'c' || c == b'e' {
-        calls::put(c, numbers, state);
-        return;
+        return calls::put(rt, c, numbers, state);
     }
     if text::is_shown(c) {
-        show(c, numbers, state);
+        return show(rt, c, numbers, state);
     }
+    Ok(())
 }
 
 // A line that only puts numbers somewhere, or one that is printed.
-fn act(line: &[u8], numbers: &[u64], state: &mut [u64])
+fn act(rt: &impl Print, line: &[u8], numbers: &[u64], state: &mut [u64]) -> io::Result<()>
     requires { length state.old ≡ 13487 }
 {
     let c = text::first(line);
     if text::is_quiet(c) {
         set(c, numbers, state);
-        return;
+        return Ok(());
     }
-    buffers::print(line);
-    speak(c, numbers, state);
-    buffers::print(b"\n");
+    buffers::print(rt, line)?;
+    speak(rt, c, numbers, state)?;
+    buffers::print(rt, b"\n")
 }
 
-fn take_line(line: &[u8], state: &mut [u64])
+fn take_line(rt: &impl Print, line: &[u8], state: &mut [u64]) -> io::Result<()>
     requires { length state.old ≡ 13487 }
 {
     let mut numbers = [0u64; 24];
     let n = text::numbers_of(line, &mut numbers);
-    act(line, &numbers[0..n], state);
+    act(rt, line, &numbers[0..n], state)
 }
 
-fn take_lines(s: &[u8], state: &mut [u64])
+fn take_lines(rt: &impl Print, s: &[u8], state: &mut [u64]) -> io::Result<()>
     requires { length state.old ≡ 13487 }
 {
     let mut at = 0;
     while at < s.len() {
-        let end = bytes::scan::find(s, at, s.len(), b'\n');
-        take_line(&s[at..end], state);
+        let end = text::find(s, at, b'\n');
+        take_line(rt, &s[at..end], state)?;
         at = end + 1;
     }
+    Ok(())
 }
 
-fn play(s: &[u8]) {
+fn play(rt: &impl Print, s: &[u8]) -> io::Result<()> {
     let mut state = [0u64; 13487];
-    take_lines(s, &mut state);
+    take_lines(rt, s, &mut state)
 }
 
-fn read_and_play() {
-    let mut input = io::large_buffer();
-    let n = io::read_full(libc::STDIN_FILENO, &mut input);
-    play(&input[0..n]);
+fn read_and_play(rt: &(impl Input + Print)) -> io::Result<()> {
+    let mut input = [0u8; 65536];
+    let n = buffers::read_full(&mut rt.reader(), &mut input)?;
+    play(rt, &input[0..n])
 }
 
-fn main() {
-    read_and_play();
+fn main(rt: HostRuntime) -> io::Result<()> {
+    read_and_play(&rt)
 }

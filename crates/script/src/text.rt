@@ -3,6 +3,7 @@ ghost use Rattle.std.specs.Prelude.{◌≤◌, length};
 
 use buffers::{at, print, print_number};
 use cursor::Digits;
+use std::io;
 
 pub fn first(line: &[u8]) -> u8 {
     if line.len() == 0 {
@@ -33,32 +34,44 @@ fn number_at(line: &[u8], from: usize) -> u64
     }
 }
 
+// The first place of a byte from the given one on; the end where there is none.
+pub fn find(s: &[u8], from: usize, b: u8) -> usize
+    requires { from ≤ length s.now }
+    ensures { (from ≤ result) × (result ≤ length s.now) }
+{
+    for i in from..s.len() {
+        if s[i] == b {
+            return i;
+        }
+    }
+    s.len()
+}
+
 // The number after each space of the line; how many there are.
 pub fn numbers_of(line: &[u8], numbers: &mut [u64]) -> usize
     ensures { result ≤ length numbers.old }
 {
     let mut n = 0;
-    let mut space = bytes::scan::find(line, 0, line.len(), b' ');
+    let mut space = find(line, 0, b' ');
     while space < line.len() {
         if n >= numbers.len() {
             return n;
         }
         numbers[n] = number_at(line, space + 1);
         n += 1;
-        space = bytes::scan::find(line, space + 1, line.len(), b' ');
+        space = find(line, space + 1, b' ');
     }
     n
 }
 
-fn print_at(xs: &[u64], places: &[u64]) {
-    let mut k = 0;
-    while k < places.len() {
-        print_number(at(xs, places[k]));
-        k += 1;
+fn print_at(rt: &impl Print, xs: &[u64], places: &[u64]) -> io::Result<()> {
+    for place in places {
+        print_number(rt, at(xs, *place))?;
     }
+    Ok(())
 }
 
-pub fn print_places(xs: &[u64], places: &[u64]) {
-    print(b":");
-    print_at(xs, places);
+pub fn print_places(rt: &impl Print, xs: &[u64], places: &[u64]) -> io::Result<()> {
+    print(rt, b":")?;
+    print_at(rt, xs, places)
 }

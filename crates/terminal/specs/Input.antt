@@ -6,4 +6,4 @@ use Rattle.terminal.specs.declared.Input.TheVariants.{Bytes, Failed}
 -- behind the first `at` the bytes lie in a buffer of this length
 abbrev pub Within : Input → ℕ → ℕ → Type 0
 Within (Bytes n) at most = at + n ≤ most
-Within Failed at most = Unit {0}
+Within (Failed e) at most = Unit {0}
