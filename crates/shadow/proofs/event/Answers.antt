@@ -2,7 +2,6 @@
 use mathlib.Core.Path.{sym, ap, ◌∙◌}
 use Prim.Native.Nat.{ℕ}
 use borrow.Author.Tests.{eq-eqb, ne_eqb}
-use borrow.Author.Rules.{rules}
 use Rattle.tables.specs.State.{shadow_of, state_of, machine64}
 use Rattle.shadow.specs.declared.Answer.TheVariants.{Refused}
 use Rattle.shadow.specs.Answer.{gives}

@@ -1,15 +1,10 @@
 -- The roots below p are set.
-use mathlib.Core.Path.{◌≡◌, refl, sym, ap, ◌∙◌}
-use mathlib.Core.List.{List}
-use Prim.Native.Nat.{ℕ, ◌-◌, ◌≤◌}
-use native.Mathlib.Omega.{arith}
+use mathlib.Core.Path.{◌≡◌}
+use Prim.Native.Nat.{◌-◌, ◌≤◌}
 use lib.ListN.{length, get_or}
 use Rattle.paging.specs.Frame.{guest}
 use Rattle.paging.specs.Numbers.{each}
-use Rattle.paging.proofs.Numbers.{each_none, each_more}
 use Rattle.tables.specs.State.{machine64, with_record, root_of}
-use Rattle.tables.proofs.Names.{few, root_small}
-use Rattle.shadow.specs.Setup.{rooted}
 use Rattle.shadow.proofs.set_roots.Given as goal
 
 abbrev pub invariant-loop-p : goal.invariant-loop-p

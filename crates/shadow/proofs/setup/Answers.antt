@@ -1,7 +1,6 @@
 -- A setup that is refused changes nothing; one that is accepted zeroes the buffers and sets the roots.
 use mathlib.Core.Path.{sym, ◌∙◌}
 use mathlib.Core.List.{[]}
-use borrow.Author.Rules.{rules}
 use Rattle.tables.specs.State.{shadow_of, state_of, machine64}
 use Rattle.shadow.proofs.Starting.{accepted_sizes, setup_exact, setup_cr3s, setup_sized, setup_refused, setup_done}
 use Rattle.shadow.proofs.setup.Goals as goal

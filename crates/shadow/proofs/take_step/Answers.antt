@@ -1,7 +1,6 @@
 -- Each arm is the move that the kind decodes to.
 use mathlib.Core.Path.{◌≡◌, ◌∙◌}
 use native.Mathlib.Omega.{arith}
-use borrow.Author.Rules.{rules}
 use Rattle.tables.specs.State.{shadow_of, state_of, machine64}
 use Rattle.shadow.proofs.Moves.{seventh, moved_store, moved-invlpg, moved-cr3, moved_access, moved_begin, moved_extend, moved-drop}
 use Rattle.shadow.proofs.take_step.Goals as goal

@@ -3,7 +3,6 @@ use mathlib.Core.Path.{ap, ap₂, ◌∙◌}
 use mathlib.Core.List.{List}
 use Prim.Native.Nat.{ℕ}
 use native.Mathlib.Omega.{arith}
-use borrow.Author.Rules.{rules}
 use Rattle.tables.specs.State.{state_of}
 use Rattle.slots.specs.Slots.{with_slot}
 use Rattle.tables.proofs.Names.{few, root_small}

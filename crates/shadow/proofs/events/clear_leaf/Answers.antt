@@ -3,7 +3,6 @@ use mathlib.Core.Path.{ap, ap₂, ◌∙◌}
 use Prim.Native.Nat.{ℕ, ◌<◌, ◌≤◌}
 use native.Mathlib.Omega.{arith}
 use borrow.Author.Tests.{lt-ltb, le-ltb}
-use borrow.Author.Rules.{rules}
 use Rattle.paging.specs.Layout.{tables64, put}
 use Rattle.paging.proofs.Indices.{index_small}
 use Rattle.tables.specs.declared.Path.{Path}

@@ -2,7 +2,6 @@
 use mathlib.Core.Path.{ap}
 use mathlib.Core.List.{List}
 use Prim.Native.Nat.{ℕ}
-use borrow.Author.Rules.{rules}
 use Rattle.tables.specs.State.{state_of}
 use Rattle.shadow.specs.declared.Answer.TheVariants.{Done}
 use Rattle.shadow.specs.Answer.{gives}

@@ -2,7 +2,6 @@
 use mathlib.Core.Path.{ap, ap₂, ◌∙◌}
 use mathlib.Core.List.{List}
 use Prim.Native.Nat.{ℕ}
-use borrow.Author.Rules.{rules}
 use Rattle.tables.specs.State.{shadow_of, state_of, machine64}
 use Rattle.slots.specs.Slots.{flush}
 use Rattle.shadow.specs.declared.Answer.TheVariants.{Done}

@@ -3,7 +3,6 @@ use mathlib.Core.Path.{sym, ap, ◌∙◌}
 use Prim.Native.Nat.{ℕ, ◌<◌, ◌≤◌}
 use native.Mathlib.Omega.{arith}
 use borrow.Author.Tests.{eq-eqb, ne_eqb, lt-ltb, le-ltb}
-use borrow.Author.Rules.{rules}
 use Rattle.paging.specs.Frame.{host, origin_of}
 use Rattle.tables.specs.State.{machine64, table_count, named}
 use Rattle.shadow.specs.declared.Place.TheVariants.{At}

@@ -3,7 +3,6 @@ use mathlib.Core.Path.{ap, ap₂, ◌∙◌}
 use mathlib.Core.List.{List}
 use Prim.Native.Nat.{ℕ}
 use native.Mathlib.Omega.{arith}
-use borrow.Author.Rules.{rules}
 use Rattle.paging.specs.Frame.{guest}
 use Rattle.tables.specs.State.{Shadow, shadow_of, on_records, state_of, machine64, with_record, root_of}
 use Rattle.tables.proofs.Names.{few, root_small}

@@ -2,7 +2,6 @@
 use mathlib.Core.Path.{sym, ◌∙◌}
 use mathlib.Core.List.{[]}
 use native.Mathlib.Omega.{arith}
-use borrow.Author.Tests.{not-true, not-false}
 use Rattle.tables.specs.State.{shadow_of, state_of, machine64}
 use Rattle.shadow.proofs.Accepted.{call_early, call_sized, call_triples, call_unlawful, call_event, call_few, call_accepted}
 use Rattle.tables.specs.SizesCode.{Sized}

@@ -2,7 +2,6 @@
 use Prim.Native.Nat.{◌*◌}
 use lib.ListN.{length}
 use borrow.Author.Tests.{eq-eqb, ne_eqb}
-use borrow.Author.Rules.{rules}
 use Rattle.tables.specs.State.{record_size}
 use Rattle.shadow.specs.Refusals.{lengths_fit}
 use Rattle.shadow.proofs.refusals.lengths_fit.Goals as goal

@@ -1,11 +1,7 @@
 use mathlib.Core.Path.{sym, ap, ◌∙◌}
 use mathlib.Core.Bool.{not}
-use Prim.Native.Nat.{◌-◌}
 use native.Mathlib.Omega.{arith}
-use lib.ListN.{length, get_or}
-use Rattle.tables.specs.State.{machine64}
-use Rattle.shadow.specs.Refusals.{in_pool}
-use Rattle.paging.proofs.Loops.{Passed, passed_none, passed_more, passed_stop, passed-all}
+use Rattle.paging.proofs.Loops.{passed_none, passed_more, passed_stop, passed-all}
 use Rattle.shadow.proofs.refusals.outside_pool.Goals as goal
 
 pub loop-i-init : goal.loop-i-init

@@ -1,12 +1,10 @@
 -- The frames below i lie outside the pool.
-use mathlib.Core.Path.{sym, ap, ◌∙◌}
 use mathlib.Core.Bool.{not}
 use Prim.Native.Nat.{◌-◌}
-use native.Mathlib.Omega.{arith}
 use lib.ListN.{length, get_or}
 use Rattle.tables.specs.State.{machine64}
 use Rattle.shadow.specs.Refusals.{in_pool}
-use Rattle.paging.proofs.Loops.{Passed, passed_none, passed_more, passed_stop, passed-all}
+use Rattle.paging.proofs.Loops.{Passed}
 use Rattle.shadow.proofs.refusals.outside_pool.Given as goal
 
 abbrev pub invariant-loop-i : goal.invariant-loop-i

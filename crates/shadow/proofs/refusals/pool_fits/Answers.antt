@@ -3,7 +3,6 @@ use mathlib.Core.Path.{refl}
 use Prim.Native.Nat.{◌+◌, ◌*◌, ◌^◌}
 use native.Mathlib.Omega.{arith}
 use borrow.Author.Tests.{lt-leb}
-use borrow.Author.Rules.{rules}
 use Rattle.shadow.specs.Refusals.{pool_fits}
 use Rattle.shadow.proofs.refusals.pool_fits.Goals as goal
 

@@ -1,7 +1,5 @@
 -- Each number in its range.
 use mathlib.Core.Path.{sym, ◌∙◌}
-use borrow.Author.Tests.{not-true, not-false}
-use borrow.Author.Rules.{rules}
 use Rattle.shadow.specs.Refusals.{ranges_fit}
 use Rattle.shadow.proofs.refusals.ranges_fit.Goals as goal
 

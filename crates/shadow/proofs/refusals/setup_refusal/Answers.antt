@@ -1,7 +1,6 @@
 -- The first test that is met decides.
 use mathlib.Core.Path.{sym, ◌∙◌}
 use mathlib.Core.List.{[]}
-use borrow.Author.Tests.{not-true, not-false}
 use Rattle.tables.specs.State.{shadow_of, state_of, machine64}
 use Rattle.shadow.proofs.Starting.{setup_early, setup_seven, setup_none}
 use Rattle.shadow.proofs.refusals.setup_refusal.Goals as goal
