@@ -17,7 +17,7 @@ use Rattle.paging.proofs.Indices.{index_small}
 use Rattle.paging.proofs.Rights.{rights_small}
 use Rattle.tables.specs.declared.Path.{Path}
 use Rattle.tables.specs.State.{Machine, Shadow, on_pool, is_free, table_count, home_of, root_of, entry_count, with_entry, named, top, next_entry, descend, path_to}
-use Rattle.tables.specs.Steps.{Settled, spot, leaf_of, settle, hang, build, taken, free_count, empty_share}
+use Rattle.tables.specs.Steps.{Settled, leaf_of, settle, hang, build, taken, free_count, empty_share}
 use Rattle.tables.proofs.Takes.{taken_may, hang-count}
 use Rattle.tables.proofs.Owners.{owner_home, owner_kept}
 use Rattle.trees.proofs.Trees.{Able, Outside, ent, lev, shd, own, Trees, Less}
@@ -26,7 +26,7 @@ use Rattle.trees.proofs.Roots.{root_table, root_owner, root_level}
 use Rattle.trees.proofs.Hangs.{hang_trees, hang-entry, hang-beside, hang_others, hang_empty}
 use Rattle.trees.proofs.Leaves.{leaf_beside, leaf_trees, Filled, leaf_of-right}
 use Rattle.trees.proofs.Shares.{share_trees, share_less, share_others, share_own, share_root}
-use Rattle.trees.proofs.Paths.{stands, less_full}
+use Rattle.trees.proofs.Paths.{less_full}
 use Rattle.trees.proofs.Unique.{hang_full, leaf_path, leaf_here, leaf_full}
 use Rattle.trees.proofs.Settles.{at, Leads, Stays, stays_trans}
 use Rattle.guest.specs.GuestWalk.{guest_entry}

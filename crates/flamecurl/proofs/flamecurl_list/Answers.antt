@@ -1,6 +1,5 @@
 -- An answer buffer of another length is refused; else the list call is made and its numbers are put.
 use mathlib.Core.Path.{refl}
-use borrow.Author.Rules.{rules}
 use Rattle.flamecurl.proofs.flamecurl_list.Goals as goal
 
 pub returns-then-answer-ne2 : goal.returns-then-answer-ne2

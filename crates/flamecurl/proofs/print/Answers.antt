@@ -1,6 +1,5 @@
 -- An answer buffer of another length is refused; else the text is answered and its numbers are put.
 use mathlib.Core.Path.{refl}
-use borrow.Author.Rules.{rules}
 use Rattle.flamecurl.proofs.print.Goals as goal
 
 pub returns-then-answer-ne4 : goal.returns-then-answer-ne4

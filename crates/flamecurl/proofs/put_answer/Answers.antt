@@ -1,7 +1,6 @@
 -- Its three numbers are copied.
 use mathlib.Core.Path.{◌∙◌}
 use mathlib.Core.List.{[], ◌∷◌}
-use borrow.Author.Rules.{rules}
 use Rattle.flamecurl.proofs.put_answer.Goals as goal
 
 pub returns : goal.returns

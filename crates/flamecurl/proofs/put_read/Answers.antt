@@ -1,5 +1,4 @@
 -- In each case of the answer its numbers are copied.
-use borrow.Author.Rules.{rules}
 use Rattle.flamecurl.specs.Exports.{read_numbers}
 use Rattle.flamecurl.proofs.Lays.{laid}
 use Rattle.flamecurl.proofs.put_read.Goals as goal

@@ -2,7 +2,6 @@
 use mathlib.Core.Path.{sym}
 use lib.ListN.{length}
 use lib.Seq.{length-take-le}
-use borrow.Author.Rules.{rules}
 use Rattle.trainer.proofs.ask.Goals as goal
 
 pub slice_bounds-ask_in-end-2 : goal.slice_bounds-ask_in-end-2

@@ -1,6 +1,5 @@
 -- The list call on a copy of the start's words leaves the right list.
 use mathlib.Core.Path.{ap, sym, ◌∙◌}
-use borrow.Author.Rules.{rules}
 use Rattle.listing.specs.Call.{lent, count_of}
 use Rattle.trainer.proofs.Asks.{found}
 use Rattle.trainer.proofs.ask_in.Goals as goal

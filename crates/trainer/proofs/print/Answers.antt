@@ -1,7 +1,6 @@
 -- A buffer of another length is refused; else the text is read, and its refusal or the program's lines are written from the first byte on.
 use mathlib.Core.Path.{refl, subst, subst⁻¹}
 use native.Mathlib.Omega.{arith}
-use borrow.Author.Rules.{rules}
 use Rattle.sections.specs.Sections.{got, refused}
 use Rattle.puzzle.specs.Buffers.{Buffers, buffers}
 use Rattle.render.specs.Render.{render_refusal}

@@ -5,7 +5,6 @@ use Prim.Native.Nat.{ℕ, ◌*◌, ◌≤◌}
 use native.Mathlib.Omega.{arith}
 use lib.ListN.{length}
 use lib.Seq.{length-take-le}
-use borrow.Author.Rules.{rules}
 use Rattle.render.specs.WrittenCode.{out_of, written}
 use Rattle.render.specs.LinesCode.{question_lines, AllMapped}
 use Rattle.trainer.proofs.Asks.{pairs_mapped, question-pairs}

@@ -1,14 +1,11 @@
 -- Question by question. At every turn the lines of the questions passed have been written.
-use mathlib.Core.Path.{◌≡◌, refl, ap, ◌∙◌, subst, subst⁻¹}
-use Prim.Native.Nat.{ℕ, ◌-◌, ◌*◌, ◌/◌, ◌≤◌}
-use native.Mathlib.Omega.{arith}
+use mathlib.Core.Path.{◌≡◌}
+use Prim.Native.Nat.{◌-◌, ◌*◌, ◌/◌, ◌≤◌}
 use lib.ListN.{length}
-use Rattle.rules.specs.declared.Question.{Question}
 use Rattle.puzzle.specs.Buffers.{buffers}
 use Rattle.render.specs.WrittenCode.{out_of, written}
 use Rattle.trainer.specs.Call.{joined}
-use Rattle.trainer.specs.PartsCode.{Posed, Answered}
-use Rattle.trainer.proofs.Turns.{lines_of, answer_more, rendered}
+use Rattle.trainer.proofs.Turns.{lines_of}
 use Rattle.trainer.proofs.put_answers.Given as goal
 
 abbrev pub invariant-loop-k : goal.invariant-loop-k

@@ -1,12 +1,11 @@
 use mathlib.Core.Path.{◌≡◌, refl, ap, ◌∙◌}
-use Prim.Native.Nat.{ℕ, ◌-◌, ◌/◌, ◌≤◌}
+use Prim.Native.Nat.{ℕ, ◌/◌}
 use native.Mathlib.Omega.{arith}
 use lib.ListN.{length}
-use borrow.Author.Rules.{rules}
 use Rattle.tables.specs.State.{machine64, shadow_of, State, state_of}
 use Rattle.render.specs.WrittenCode.{out_of, written}
 use Rattle.trainer.specs.Call.{joined}
-use Rattle.trainer.proofs.EventLines.{line_of, Ran, ran_none, ran_more}
+use Rattle.trainer.proofs.EventLines.{line_of, ran_none, ran_more}
 use Rattle.trainer.proofs.put_events.Goals as goal
 
 pub loop-k-init : goal.loop-k-init

@@ -1,13 +1,9 @@
 -- Event by event. At every turn the machine is in the state after the events passed, and their lines have been written.
-use mathlib.Core.Path.{◌≡◌, refl, ap, ◌∙◌}
-use Prim.Native.Nat.{ℕ, ◌-◌, ◌/◌, ◌≤◌}
-use native.Mathlib.Omega.{arith}
+use mathlib.Core.Path.{◌≡◌}
+use Prim.Native.Nat.{◌-◌, ◌/◌, ◌≤◌}
 use lib.ListN.{length}
-use borrow.Author.Rules.{rules}
-use Rattle.tables.specs.State.{machine64, shadow_of, State, state_of}
-use Rattle.render.specs.WrittenCode.{out_of, written}
-use Rattle.trainer.specs.Call.{joined}
-use Rattle.trainer.proofs.EventLines.{line_of, Ran, ran_none, ran_more}
+use Rattle.tables.specs.State.{machine64, shadow_of, state_of}
+use Rattle.trainer.proofs.EventLines.{Ran}
 use Rattle.trainer.proofs.put_events.Given as goal
 
 abbrev pub invariant-loop-k : goal.invariant-loop-k

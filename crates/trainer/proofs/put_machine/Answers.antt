@@ -1,7 +1,6 @@
 -- Setup is accepted, so that the run starts where the promise says.
 use mathlib.Core.Path.{subst}
 use mathlib.Core.List.{[]}
-use borrow.Author.Rules.{rules}
 use Rattle.tables.specs.State.{machine64, shadow_of, State, state_of}
 use Rattle.trainer.specs.Run.{sizes_of}
 use Rattle.trainer.specs.PartsCode.{EventsPut}

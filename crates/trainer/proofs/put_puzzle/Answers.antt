@@ -1,10 +1,8 @@
 -- Each buffer is cut to its count, for either program.
-use mathlib.Core.Path.{◌≡◌, refl, sym, subst⁻¹}
+use mathlib.Core.Path.{refl, sym, subst⁻¹}
 use Prim.Native.Nat.{◌*◌}
-use lib.ListN.{length, take}
 use lib.Seq.{length-take-le}
-use borrow.Author.Rules.{rules}
-use Rattle.puzzle.specs.Buffers.{Buffers, buffers}
+use Rattle.puzzle.specs.Buffers.{buffers}
 use Rattle.trainer.specs.declared.Program.{Program}
 use Rattle.trainer.specs.PartsCode.{LinesOf, AllPut, cut}
 use Rattle.trainer.proofs.put_puzzle.Goals as goal

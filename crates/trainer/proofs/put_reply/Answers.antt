@@ -1,7 +1,6 @@
 -- The answer's kind and value as numbers; a kind has one digit.
 use mathlib.Core.Path.{ap₂, ◌∙◌, subst⁻¹}
 use Prim.Native.Nat.{ℕ, ◌+◌, ◌<◌}
-use borrow.Author.Rules.{rules}
 use Rattle.render.specs.Render.{render_event}
 use Rattle.render.specs.WrittenCode.{out_of, written}
 use Rattle.trainer.proofs.EventLines.{kind_small}

@@ -1,10 +1,9 @@
 -- Four tables to a processor: 2048 entries, 8 numbers of records, and 24 numbers of slots.
-use mathlib.Core.Path.{◌≡◌, sym}
+use mathlib.Core.Path.{sym}
 use Prim.Native.Nat.{◌*◌}
 use native.Mathlib.Omega.{arith}
-use lib.ListN.{length, take}
+use lib.ListN.{length}
 use lib.Seq.{length-take-le}
-use borrow.Author.Rules.{rules}
 use Rattle.trainer.proofs.put_share.Goals as goal
 
 pub slice_bounds-put_machine-end-2 : goal.slice_bounds-put_machine-end-2
