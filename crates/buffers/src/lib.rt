@@ -7,7 +7,7 @@ pub mod guest;
 ghost use Rattle.std.specs.Prelude.{◌≤◌, length, IfOk};
 
 use std::io;
-use std::io::{ErrorKind, Read};
+use std::io::Read;
 
 pub fn print(rt: &impl Print, s: &[u8]) -> io::Result<()> {
     rt.write_all(s)
@@ -67,27 +67,20 @@ pub fn print_either(rt: &impl Print, first: bool, a: &[u8], b: &[u8]) -> io::Res
     print(rt, b)
 }
 
-// Reads until the buffer is full or the input ends, and says how many bytes it put at the start. A read that a signal cut
-// short is tried again; one that fails is an error, and never the end of the text.
+// Reads until the buffer is full or the input ends, and says how many bytes it put at the start. A read that fails is an error,
+// and never the end of the text.
 pub fn read_full<R: Read>(reader: &mut R, to: &mut [u8]) -> io::Result<usize>
     ensures { IfOk result (λ n. n ≤ length to.new) }
 {
     let mut at = 0;
-    for _ in 0..u64::MAX {
-        if at >= to.len() {
+    while at < to.len() {
+        let n = reader.read(&mut to[at..])?;
+        if n == 0 {
             return Ok(at);
         }
-        match reader.read(&mut to[at..]) {
-            Ok(0) => return Ok(at),
-            Ok(n) => at += n,
-            Err(e) => {
-                if e.kind() != ErrorKind::Interrupted {
-                    return Err(e);
-                }
-            }
-        }
+        at += n;
     }
-    Err(io::Error::from(ErrorKind::Interrupted))
+    Ok(at)
 }
 
 // What stands at a place, and 0 beyond the end.

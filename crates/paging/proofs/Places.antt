@@ -1,4 +1,4 @@
--- A place of a function's proof by its type: `at tie.After-settle (search)` is where the call of settle has returned,
--- however many places lie behind. A chain of `.before` would count them, and break at the next edit of the code.
+-- A term with its type beside it: `at A x` is x, and A is read where no other type shows it. Proofs of an older kit cited a
+-- place of a function's proof so; today each step of the code is a field of its own.
 abbrev pub at : (A : Type 0) → A → A
 at A x = x
