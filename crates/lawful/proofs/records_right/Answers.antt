@@ -15,13 +15,13 @@ few-tables : (c : In-loop-t) → c.loop-t.t < 64
 few-tables c = omega (arith, few c.requires.sized.0, within c)
 
 -- what the counts say is how many entries name the table
-record_is : (c : After-record_right) → let a = c.args in let t = c.loop-t.t in
+record_is : (c : After-record_right) → c.loop-t.t < table_count (machine64 c.args.z) → let a = c.args in let t = c.loop-t.t in
     c.record_right.result ≡ record_right (machine64 a.z) a.records.now (names_of (machine64 a.z) a.pool.now t) t
 unfolding names_of
-record_is c =
+record_is c inside =
     let a = c.args in
     let t = c.loop-t.t in
-    c.record_right.ensures ∙ ap (λ (n : ℕ). record_right (machine64 a.z) a.records.now n t) (c.requires.tallied.told t (omega (arith, c.table_count-n.ensures, c.loop-t-test.true)))
+    c.record_right.ensures ∙ ap (λ (n : ℕ). record_right (machine64 a.z) a.records.now n t) (c.requires.tallied.told t inside)
 
 pub table_count-n-requires : goal.table_count-n-requires
 table_count-n-requires c = c.requires.sized.0
@@ -40,7 +40,7 @@ record_right-requires c = (c.requires.sized.0, omega (arith, few-tables (goal.at
 
 pub returns-then-not-record_right : goal.returns-then-not-record_right
 unfolding table_right
-returns-then-not-record_right c = passed_stop c.loop-t.invariant (within (goal.at.returns-then-not-record_right c).In-loop-t) (simp (sym (record_is (goal.at.returns-then-not-record_right c).After-record_right) ∙ c.if-not-record_right.true))
+returns-then-not-record_right c = passed_stop c.loop-t.invariant (within (goal.at.returns-then-not-record_right c).In-loop-t) (simp (sym (record_is (goal.at.returns-then-not-record_right c).After-record_right (within (goal.at.returns-then-not-record_right c).In-loop-t)) ∙ c.if-not-record_right.true))
 
 pub entries_right-requires : goal.entries_right-requires
 entries_right-requires c = (c.requires.sized.0, omega (arith, few-tables (goal.at.entries_right-requires c).In-loop-t), c.requires.sized.1)
@@ -50,7 +50,7 @@ pub returns-then-not-entries_right : goal.returns-then-not-entries_right
 unfolding table_right
 returns-then-not-entries_right c =
     let entries = sym c.entries_right.ensures ∙ c.if-not-entries_right.true in
-    passed_stop c.loop-t.invariant (within (goal.at.returns-then-not-entries_right c).In-loop-t) (simp (sym (record_is (goal.at.returns-then-not-entries_right c).After-record_right) ∙ c.if-not-record_right.false) entries)
+    passed_stop c.loop-t.invariant (within (goal.at.returns-then-not-entries_right c).In-loop-t) (simp (sym (record_is (goal.at.returns-then-not-entries_right c).After-record_right (within (goal.at.returns-then-not-entries_right c).In-loop-t)) ∙ c.if-not-record_right.false) entries)
 
 pub overflow_add-t : goal.overflow_add-t
 overflow_add-t c = omega (arith, few-tables (goal.at.overflow_add-t c).In-loop-t)
@@ -59,7 +59,7 @@ pub loop-t-preserved : goal.loop-t-preserved
 unfolding table_right
 loop-t-preserved c =
     let entries = sym c.entries_right.ensures ∙ c.if-not-entries_right.false in
-    passed_more c.loop-t.invariant (within (goal.at.loop-t-preserved c).In-loop-t) (simp (sym (record_is (goal.at.loop-t-preserved c).After-record_right) ∙ c.if-not-record_right.false) entries)
+    passed_more c.loop-t.invariant (within (goal.at.loop-t-preserved c).In-loop-t) (simp (sym (record_is (goal.at.loop-t-preserved c).After-record_right (within (goal.at.loop-t-preserved c).In-loop-t)) ∙ c.if-not-record_right.false) entries)
 
 pub returns : goal.returns
 returns c = passed-all c.loop-t.invariant (omega (arith, c.table_count-n.ensures))

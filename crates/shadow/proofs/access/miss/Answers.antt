@@ -17,14 +17,13 @@ cr3-small c =
     let a = c.args in
     omega (arith, ap (λ (g : Guest). g.0) (c.shadowed_by-cr3.ensures ∙ ap (shadows a.records.now) c.root_of.ensures), c.requires.ready.cr3)
 
-range : (c : After-walk_guest) → InRange (2 ^ 40) c.walk_guest.result
-range c =
+range : (c : After-walk_guest) → c.shadowed_by-cr3.result.0 < 2 ^ 40 → InRange (2 ^ 40) c.walk_guest.result
+range c small =
     let a = c.args in
-    guest_range tables64 a.z.frames a.page (2 ^ 40) (omega (arith, c.requires.ready.sized.frames)) a.words.now c.shadowed_by-cr3.result
-    (omega (arith, ap (λ (g : Guest). g.0) (c.shadowed_by-cr3.ensures ∙ ap (shadows a.records.now) c.root_of.ensures), c.requires.ready.cr3)) c.walk_guest.ensures
+    guest_range tables64 a.z.frames a.page (2 ^ 40) (omega (arith, c.requires.ready.sized.frames)) a.words.now c.shadowed_by-cr3.result small c.walk_guest.ensures
 
-whole-range : (c : After-walk_guest) (last : Guest) (w : Walk) → c.walk_guest.result ≡ Whole last w → (last.0 < 2 ^ 40) × (w.rights < 8)
-whole-range c last w q = rw q at (range c)
+whole-range : (c : After-walk_guest) → c.shadowed_by-cr3.result.0 < 2 ^ 40 → (last : Guest) (w : Walk) → c.walk_guest.result ≡ Whole last w → (last.0 < 2 ^ 40) × (w.rights < 8)
+whole-range c small last w q = rw q at (range c small)
 
 pub root_of-requires : goal.root_of-requires
 root_of-requires c = (c.requires.ready.sized, c.requires.ready.own)
@@ -37,11 +36,11 @@ walk_guest-requires c = (c.requires.ready.sized.frames, cr3-small (goal.at.walk_
 
 pub overflow_add-result : goal.overflow_add-result
 overflow_add-result c =
-    let q : InRange (2 ^ 40) (Fault c.in-Fault.base) = rw c.in-Fault.is at (range (goal.at.overflow_add-result c).After-walk_guest) in
+    let q : InRange (2 ^ 40) (Fault c.in-Fault.base) = rw c.in-Fault.is at (range (goal.at.overflow_add-result c).After-walk_guest (cr3-small (goal.at.overflow_add-result c).After-shadowed_by-cr3)) in
     omega (arith, c.requires.needs_bound.1)
 
 pub has_enough-requires : goal.has_enough-requires
-has_enough-requires c = (c.requires.needs_bound.0, (whole-range (goal.at.has_enough-requires c).After-walk_guest c.in-Whole.last c.in-Whole.w c.in-Whole.is).1)
+has_enough-requires c = (c.requires.needs_bound.0, (whole-range (goal.at.has_enough-requires c).After-walk_guest (cr3-small (goal.at.has_enough-requires c).After-shadowed_by-cr3) c.in-Whole.last c.in-Whole.w c.in-Whole.is).1)
 
 pub returns-then-not-has_enough : goal.returns-then-not-has_enough
 returns-then-not-has_enough c =
@@ -51,7 +50,7 @@ returns-then-not-has_enough c =
     (sym c.has_enough.ensures ∙ c.if-not-has_enough.true)
 
 pub set_d-requires : goal.set_d-requires
-set_d-requires c = (whole-range (goal.at.set_d-requires c).After-walk_guest c.in-Whole.last c.in-Whole.w c.in-Whole.is).0
+set_d-requires c = (whole-range (goal.at.set_d-requires c).After-walk_guest (cr3-small (goal.at.set_d-requires c).After-shadowed_by-cr3) c.in-Whole.last c.in-Whole.w c.in-Whole.is).0
 
 pub fill-requires : goal.fill-requires
 fill-requires c = c.requires.ready

@@ -16,11 +16,12 @@ use Rattle.shadow.proofs.fill.fill.Goals.{After-empty_share, After-root_of-root,
 root-within : (c : After-root_of-root) → c.root_of-root.result < table_count (machine64 c.args.z)
 root-within c = omega (arith, c.root_of-root.ensures, root_small c.requires.sized c.args.p c.requires.own)
 
-from-top : (c : After-shadowed_by-cr3) → SpotFits c.args.z (spot 3 c.root_of-root.result c.shadowed_by-cr3.result)
-from-top c =
+from-top : (c : After-shadowed_by-cr3) → c.root_of-root.result < table_count (machine64 c.args.z)
+    → SpotFits c.args.z (spot 3 c.root_of-root.result c.shadowed_by-cr3.result)
+from-top c within =
     record {
       missing = omega arith;
-      table = omega (arith, c.root_of-root.ensures, root_small c.requires.sized c.args.p c.requires.own);
+      table = within;
       frame = omega (arith, ap (λ (g : Guest). g.0) (c.shadowed_by-cr3.ensures ∙ ap (shadows c.args.records.now) c.root_of-root.ensures), c.requires.cr3);
     }
 
@@ -28,21 +29,15 @@ from-top c =
 room_settled : (c : After-settle-w) → Room c.args.z c.settle-w.new.records
 room_settled c = record { sized = c.requires.sized; pairs = c.settle-w.auto.records ∙ c.requires.pairs }
 
-on-table : (c : After-settle-w) → SpotFits c.args.z c.settle-w.result
-on-table c =
+on-table : (c : After-settle-w) → SpotFits c.args.z (spot 3 c.root_of-root.result c.shadowed_by-cr3.result) → SpotFits c.args.z c.settle-w.result
+on-table c top =
     let a = c.args in
-    let top : SpotFits a.z (spot 3 c.root_of-root.result c.shadowed_by-cr3.result) = record {
-      missing = omega arith;
-      table = omega (arith, c.root_of-root.ensures, root_small c.requires.sized c.args.p c.requires.own);
-      frame = omega (arith, ap (λ (g : Guest). g.0) (c.shadowed_by-cr3.ensures ∙ ap (shadows a.records.now) c.root_of-root.ensures), c.requires.cr3);
-    } in
     subst⁻¹ (SpotFits a.z) (ap (λ (d : Settled). d.spot) c.settle-w.ensures)
     (settled_spot a.z a.words.now a.page 3 c.root_of-root.result c.shadowed_by-cr3.result (shadow_of a.pool.now a.records.now) top.missing top.table top.frame)
 
 -- the share that was emptied
-room-emptied : (c : After-empty_share) → Room c.args.z c.empty_share.new.records
-room-emptied c =
-    record { sized = c.requires.sized; pairs = c.empty_share.auto.records ∙ c.settle-w.auto.records ∙ c.requires.pairs }
+room-emptied : (c : After-empty_share) → Room c.args.z c.settle-w.new.records → Room c.args.z c.empty_share.new.records
+room-emptied c room = record { sized = room.sized; pairs = c.empty_share.auto.records ∙ room.pairs }
 
 three : (c : After-empty_share) → 3 ≤ free_count (machine64 c.args.z) c.args.p c.empty_share.new.records
 three c =
@@ -58,7 +53,7 @@ pub shadowed_by-cr3-requires : goal.shadowed_by-cr3-requires
 shadowed_by-cr3-requires c = omega (arith, root-within (goal.at.shadowed_by-cr3-requires c).After-root_of-root, few c.requires.sized)
 
 pub settle-w-requires : goal.settle-w-requires
-settle-w-requires c = record { room = search; spot_fits = from-top (goal.at.settle-w-requires c).After-shadowed_by-cr3 }
+settle-w-requires c = record { room = search; spot_fits = from-top (goal.at.settle-w-requires c).After-shadowed_by-cr3 (root-within (goal.at.settle-w-requires c).After-root_of-root) }
 
 pub empty_share-requires : goal.empty_share-requires
 empty_share-requires c = record { room = room_settled (goal.at.empty_share-requires c).After-settle-w; p_lt_processors = c.requires.own }
@@ -67,13 +62,13 @@ pub empty_slots-requires : goal.empty_slots-requires
 empty_slots-requires c = (omega (arith, c.requires), c.requires.triples)
 
 pub build_path-requires : goal.build_path-requires
-build_path-requires c = record { room = room-emptied (goal.at.build_path-requires c).After-empty_share; spot_fits = (from-top (goal.at.build_path-requires c).After-shadowed_by-cr3, three (goal.at.build_path-requires c).After-empty_share); by_index = c.requires.hosts }
+build_path-requires c = record { room = room-emptied (goal.at.build_path-requires c).After-empty_share (room_settled (goal.at.build_path-requires c).After-settle-w); spot_fits = (from-top (goal.at.build_path-requires c).After-shadowed_by-cr3 (root-within (goal.at.build_path-requires c).After-root_of-root), three (goal.at.build_path-requires c).After-empty_share); by_index = c.requires.hosts }
 
 pub flush-requires : goal.flush-requires
 flush-requires c = (omega (arith, c.requires), omega (arith, c.empty_slots.auto.slots, c.requires.triples))
 
 pub build_path-requires-else-count_free-w : goal.build_path-requires-else-count_free-w
-build_path-requires-else-count_free-w c = record { room = room_settled (goal.at.build_path-requires-else-count_free-w c).After-settle-w; spot_fits = (on-table (goal.at.build_path-requires-else-count_free-w c).After-settle-w, omega (arith, c.if-count_free-w.false, c.count_free.ensures)); by_index = c.requires.hosts }
+build_path-requires-else-count_free-w c = record { room = room_settled (goal.at.build_path-requires-else-count_free-w c).After-settle-w; spot_fits = (on-table (goal.at.build_path-requires-else-count_free-w c).After-settle-w (from-top (goal.at.build_path-requires-else-count_free-w c).After-shadowed_by-cr3 (root-within (goal.at.build_path-requires-else-count_free-w c).After-root_of-root)), omega (arith, c.if-count_free-w.false, c.count_free.ensures)); by_index = c.requires.hosts }
 
 pub flush-requires-else-count_free-w : goal.flush-requires-else-count_free-w
 flush-requires-else-count_free-w c = (omega (arith, c.requires), c.requires.triples)
