@@ -19,6 +19,7 @@ pub struct Call<'a> {
     pub question: Question,
 }
 
+#[derive(Drop)]
 pub struct Lent<'a> {
     pub words: &'a mut [u64],
     pub work: &'a mut [u8],

@@ -1,5 +1,7 @@
 // The sides for G = 6, and a refusal of each number in the list call's own order.
 // A line is the call's last event or its question, the number that the call returns, and whether the lent buffers changed.
+ghost use Rattle.std.specs.Prelude.{◌≤◌};
+
 use crate::call::{Call, Lent, READ, print_kept};
 use buffers::{print, print_number, print_numbers};
 use listing::Listed;
@@ -87,7 +89,9 @@ fn show_call<const WORK: usize>(
     label: &[u8],
     numbers: &[u64],
     call: Call,
-) -> io::Result<()> {
+) -> io::Result<()>
+    requires { WORK ≤ 300 }
+{
     let mut words = [0u64; 3072];
     let mut work = [0u8; WORK];
     let mut outcomes = [0u64; 24];
