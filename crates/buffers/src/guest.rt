@@ -1,6 +1,7 @@
 // A guest of 256 frames and events on 4 processors, all drawn, for the largest list call.
 // Entries and stores keep to sixteen frames, 0, 17, .., 255, so that walks change often; 272 is beyond the guest.
-// Kept: an event's kind is a number here, since the numbers of an event are what is drawn and what the call takes.
+// Kept: an event's kind is a number here and no `rules::Kind`: the numbers of an event are what is drawn and what the call takes, and
+// this crate stands on no other.
 use crate::draw::Draws;
 
 const MAP_BASE: u64 = 1000;

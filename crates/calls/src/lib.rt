@@ -81,11 +81,11 @@ impl State {
             share,
             base,
         };
-        let map = first(&self.map, map);
-        let words = first_mut(&mut self.words, words);
-        let pool = first_mut(&mut self.pool, pool);
-        let records = first_mut(&mut self.records, records);
-        let slots = first_mut(&mut self.slots, slots);
+        let map = first(&mut self.map, map);
+        let words = first(&mut self.words, words);
+        let pool = first(&mut self.pool, pool);
+        let records = first(&mut self.records, records);
+        let slots = first(&mut self.slots, slots);
         match call {
             Call::Setup => shadow::setup(map, numbers, pool, records, slots, z),
             Call::Event => shadow::event(map, words, pool, records, slots, z, event_of(numbers)),
@@ -115,12 +115,7 @@ impl State {
 }
 
 // The first n, and at most what there is.
-fn first(xs: &[u64], n: u64) -> &[u64] {
-    let n = n.min(xs.len() as u64);
-    &xs[..n as usize]
-}
-
-fn first_mut(xs: &mut [u64], n: u64) -> &mut [u64] {
+fn first(xs: &mut [u64], n: u64) -> &mut [u64] {
     let n = n.min(xs.len() as u64);
     &mut xs[..n as usize]
 }

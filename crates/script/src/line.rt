@@ -1,5 +1,5 @@
 // A line of the script: what it asks for, and its numbers.
-ghost use Rattle.std.specs.Prelude.{◌≤◌, length};
+ghost use Rattle.std.specs.Prelude.{◌≤◌};
 
 use calls::{Call, Section};
 use cursor::Digits;
@@ -43,15 +43,35 @@ fn number(word: &[u8]) -> u64 {
     }
 }
 
-// Puts the number after each space of the line, as many as there is room for, and says how many.
-pub fn put_numbers(line: &[u8], numbers: &mut [u64]) -> usize
-    ensures { result ≤ length numbers.new }
-{
-    let words = line.split(|b| *b == b' ').skip(1);
-    let mut n = 0;
-    for (place, word) in numbers.iter_mut().zip(words) {
-        *place = number(word);
-        n += 1;
+// The numbers of a line. There is room for 24, and further ones are let go.
+#[derive(Clone, Copy)]
+pub struct Numbers {
+    values: [u64; 24],
+    count: usize,
+    ghost in_room: { count ≤ 24 },
+}
+
+impl Numbers {
+    // The number after each space.
+    pub fn of(line: &[u8]) -> Numbers {
+        let mut numbers = Numbers {
+            values: [0; 24],
+            count: 0,
+        };
+        for word in line.split(|b| *b == b' ').skip(1) {
+            numbers.push(number(word));
+        }
+        numbers
     }
-    n
+
+    fn push(&mut self, x: u64) {
+        if self.count < self.values.len() {
+            self.values[self.count] = x;
+            self.count += 1;
+        }
+    }
+
+    pub fn as_slice(&self) -> &[u64] {
+        &self.values[..self.count]
+    }
 }

@@ -9,7 +9,7 @@
 mod line;
 
 use calls::{Section, State};
-use line::Command;
+use line::{Command, Numbers};
 use std::io;
 
 fn show(rt: &impl Print, xs: &[u64], places: &[u64]) -> io::Result<()> {
@@ -49,9 +49,8 @@ fn play(rt: &impl Print, text: &[u8]) -> io::Result<()> {
     let mut state = State::new();
     for line in text.split_inclusive(|b| *b == b'\n') {
         let line = line.strip_suffix(b"\n").unwrap_or(line);
-        let mut numbers = [0u64; 24];
-        let n = line::put_numbers(line, &mut numbers);
-        act(rt, line, &numbers[..n], &mut state)?;
+        let numbers = Numbers::of(line);
+        act(rt, line, numbers.as_slice(), &mut state)?;
     }
     Ok(())
 }
