@@ -43,20 +43,14 @@ pub fn level_of(records: &[u64], t: u64) -> u64
     requires { t ≤ 64 }
     ensures { result ≡ level_of records.now t }
 {
-    let at = RECORD * (t as usize);
-    if at < records.len() { records[at] } else { 0 }
+    records.get(RECORD * t as usize).copied().unwrap_or(0)
 }
 
 pub fn shadowed_by(records: &[u64], t: u64) -> Guest
     requires { t ≤ 64 }
     ensures { result ≡ shadows records.now t }
 {
-    let at = RECORD * (t as usize) + 1;
-    if at < records.len() {
-        Guest(records[at])
-    } else {
-        Guest(0)
-    }
+    Guest(records.get(RECORD * t as usize + 1).copied().unwrap_or(0))
 }
 
 pub fn set_record(records: &mut [u64], t: u64, level: u64, g: Guest)
@@ -252,10 +246,8 @@ fn agreeing(records: &[u64], z: Sizes, h: u64, e: u64) -> Option<u64>
     ensures { result ≡ agreeing (machine64 z) records.now h e }
 {
     let u = named_by(z, h)?;
-    if paging::rights_of(h) != paging::rights_of(e) {
-        return None;
-    }
-    (shadowed_by(records, u).0 == paging::frame_of(e)).then_some(u)
+    let same_frame = shadowed_by(records, u).0 == paging::frame_of(e);
+    (same_frame && paging::rights_of(h) == paging::rights_of(e)).then_some(u)
 }
 
 // Down from a table as long as the entries agree with the guest's; the first that does not is cut.
@@ -295,26 +287,6 @@ pub fn settle(
     }
 }
 
-// Entry i of t names u, which gets its record.
-fn hang_table(
-    pool: &mut [u64],
-    records: &mut [u64],
-    z: Sizes,
-    t: u64,
-    i: usize,
-    u: u64,
-    level: u64,
-    g: Guest,
-    rights: u64,
-)
-    requires room { Room z records.old }
-    requires t_bound { (t < table_count (machine64 z)) × (i < frame_words) × (u < table_count (machine64 z)) × (rights < 8) }
-    ensures { shadow_of pool.new records.new ≡ hang (machine64 z) t i u level g rights (shadow_of pool.old records.old) }
-{
-    set_record(records, u, level, g);
-    paging::write_entry(pool, t, i, paging::composed(rights, 0, z.base + u));
-}
-
 // Takes the next missing table and hangs it below the one that stands.
 fn hang_next(
     words: &[u64],
@@ -333,17 +305,9 @@ fn hang_next(
     let u = next_free(records, z, p).unwrap();
     let below = Guest(paging::frame_of(e));
     let i = paging::index_of(page, w.missing + 1);
-    hang_table(
-        pool,
-        records,
-        z,
-        w.table,
-        i,
-        u,
-        w.missing,
-        below,
-        paging::rights_of(e),
-    );
+    let entry = paging::composed(paging::rights_of(e), 0, z.base + u);
+    set_record(records, u, w.missing, below);
+    paging::write_entry(pool, w.table, i, entry);
     Spot {
         missing: w.missing - 1,
         table: u,
