@@ -3,7 +3,7 @@ use buffers::{draw, print, print_numbers, print_pairs};
 use rules::{Question, Refusal};
 use std::io;
 
-// Page 8 of processor 0, for a read.
+// Whether processor 0 may read at address 8.
 pub const READ: Question = Question {
     proc: 0,
     addr: 8,
