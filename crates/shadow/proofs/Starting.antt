@@ -14,8 +14,8 @@ use Rattle.rules.specs.Refusal.{test, refusal}
 use Rattle.rules.proofs.Ranges.{clear}
 use Rattle.tables.specs.declared.Sizes.{Sizes}
 use Rattle.tables.specs.State.{Machine, shadow_of, State, state_of, machine64, table_count}
-use Rattle.shadow.specs.declared.Answer.TheVariants.{Done, Refused}
-use Rattle.shadow.specs.Answer.{gives}
+use Rattle.shadow.specs.declared.Answer.TheVariants.{Done}
+use Rattle.shadow.specs.Answer.{gives, refuses}
 use Rattle.shadow.specs.Refusals.{ranges_fit, lengths_fit, pool_fits, in_pool, frames_fit, setup_refusal}
 use Rattle.shadow.specs.Setup.{rooted, after_setup}
 use Rattle.shadow.proofs.Sizing.{Ranged, ranged, pool_room, Exact, exact}
@@ -74,10 +74,10 @@ module _ (M : Machine) (map cr3s : List ℕ) (s : State) where
         (not-false _ c.0, not-false _ c.1.0)
 
   -- the two ends of a setup
-  pub setup_refused : {n : ℕ} → n ≡ setup_refusal M map cr3s s → (n ≡ 0 → ⊥) → gives (Refused n) s ≡ after_setup M map cr3s s
+  pub setup_refused : {n : ℕ} → n ≡ setup_refusal M map cr3s s → (n ≡ 0 → ⊥) → refuses n s ≡ after_setup M map cr3s s
   unfolding after_setup
   setup_refused en some =
-      ap (λ (k : ℕ). gives (Refused k) s) en ∙ sym (simp (ne_eqb (setup_refusal M map cr3s s) 0 (λ q. some (en ∙ q))))
+      ap (λ (k : ℕ). refuses k s) en ∙ sym (simp (ne_eqb (setup_refusal M map cr3s s) 0 (λ q. some (en ∙ q))))
 
   pub setup_done : setup_refusal M map cr3s s ≡ 0 → {pool records records' slots : List ℕ}
       → pool ≡ replicate (length s.shadow.pool) 0 → records ≡ replicate (length s.shadow.records) 0 → slots ≡ replicate (length s.slots) 0

@@ -7,7 +7,7 @@ ghost use Rattle.shadow.specs.Answer.{gives};
 ghost use Rattle.shadow.specs.Moves.{after_store, leaf_cleared, after_invlpg, after_cr3, after_begin, place_below, after_extend, after_drop};
 ghost use Rattle.shadow.specs.ReadyCode.{Standing};
 
-use crate::{Answer, Place};
+use crate::Answer;
 use paging::{Guest, Host, Origin};
 use tables::Sizes;
 
@@ -75,22 +75,18 @@ pub fn drop_slot(slots: &mut [u64], p: u64, k: u64) -> Answer
 }
 
 // Where a walk moves to from an entry of a level: the guest frame or the table.
-fn place_below(map: &[u64], z: Sizes, level: u64, e: u64) -> Place
+fn place_below(map: &[u64], z: Sizes, level: u64, e: u64) -> Option<u64>
     requires { Sized z }
     ensures { result ≡ place_below (machine64 z) map.now level e }
 {
     if level == 1 {
         return match paging::origin_of(map, Host(paging::frame_of(e))) {
-            Origin::Of(g) => Place::At(g.0),
-            Origin::Nowhere => Place::Off,
+            Origin::Of(g) => Some(g.0),
+            Origin::Nowhere => None,
         };
     }
     let u = tables::named_by(z, e);
-    if u < tables::table_count(z) {
-        Place::At(u)
-    } else {
-        Place::Off
-    }
+    (u < tables::table_count(z)).then_some(u)
 }
 
 pub fn extend(map: &[u64], pool: &[u64], slots: &mut [u64], z: Sizes, p: u64, k: u64) -> Answer
@@ -107,12 +103,10 @@ pub fn extend(map: &[u64], pool: &[u64], slots: &mut [u64], z: Sizes, p: u64, k:
     if !paging::present(e) {
         return Answer::NoStep;
     }
+    let Some(place) = place_below(map, z, mark - 1, e) else {
+        return Answer::NoStep;
+    };
     let rights = paging::shared_rights(slots[at + 2] % 8, paging::rights_of(e));
-    match place_below(map, z, mark - 1, e) {
-        Place::At(place) => {
-            slots::set_slot(slots, p, k, mark - 1, page, place, rights);
-            Answer::Done
-        }
-        Place::Off => Answer::NoStep,
-    }
+    slots::set_slot(slots, p, k, mark - 1, page, place, rights);
+    Answer::Done
 }
