@@ -1,17 +1,21 @@
 -- What the tests of sizes and frames say once they are passed.
-use mathlib.Core.Path.{◌≡◌}
-use mathlib.Core.Bool.{true, ◌&&◌}
+use mathlib.Core.Path.{◌≡◌, refl, sym, ap, ◌∙◌}
+use mathlib.Core.Bool.{Bool, true, ◌&&◌}
 use mathlib.Core.List.{List}
-use Prim.Native.Nat.{ℕ, ◌+◌, ◌*◌, ◌^◌, ◌<◌, ◌≤◌}
+use Prim.Native.Nat.{ℕ, zero, suc, ◌+◌, ◌*◌, ◌^◌, ◌<◌, ◌≤◌}
 use native.Mathlib.Nat.{mul-le-mul}
 use native.Mathlib.Decide.{dec_lt}
+use native.Mathlib.Numerals.{add-one}
 use native.Mathlib.Omega.{arith}
 use lib.Dec.{eqb, ltb}
-use lib.ListN.{length, get_or, get_or-eq_default}
+use lib.ListN.{length, take, get_or, get_or-eq_default}
 use borrow.Author.Tests.{leb-true, ltb-true, eqb-true}
 use Rattle.paging.specs.Frame.{is_new, map_fits}
 use Rattle.paging.specs.Layout.{frame_words}
-use Rattle.paging.specs.Numbers.{is_between}
+use Rattle.std.specs.List.{list_all}
+use Rattle.std.proofs.Math.Seq.{take-length}
+use Rattle.std.proofs.lemmas.List.Folds.{list_all_more}
+use Rattle.paging.specs.Numbers.{all, is_between}
 use Rattle.paging.proofs.Tests.{both}
 use Rattle.paging.proofs.Numbers.{all-at, between}
 use Rattle.tables.specs.declared.Sizes.{Sizes}
@@ -38,6 +42,9 @@ module _ (M : Machine) where
 
   pub ranged_few : Ranged M → M.processors * M.share ≤ 64
   ranged_few h = mul-le-mul h.processors.1 h.share.1
+
+  pub few : ranges_fit M ≡ true → (M.processors ≤ 4) × (M.processors * M.share ≤ 64)
+  few e = let h = ranged e in (h.processors.1, ranged_few h)
 
   -- the exact lengths
   pub record Exact (map : List ℕ) (s : Shadow) (slots : List ℕ) : Type 0 where
@@ -67,14 +74,16 @@ module _ (M : Machine) where
   pool_room e = leb-true (M.base + table_count M) (2 ^ M.tables.frame_bits) e
 
 -- the sizes that the functions ask for
-pub sized : (z : Sizes) → Ranged (machine64 z) → pool_fits (machine64 z) ≡ true → Sized z
-sized z h e = record {
-  frames = h.frames.1;
-  processors = h.processors.1;
-  some = omega (arith, h.share);
-  share = h.share.1;
-  pool = pool_room (machine64 z) e;
-}
+pub sized : (z : Sizes) → ranges_fit (machine64 z) ≡ true → pool_fits (machine64 z) ≡ true → Sized z
+sized z r e =
+    let h = ranged (machine64 z) r in
+    record {
+      frames = h.frames.1;
+      processors = h.processors.1;
+      some = omega (arith, h.share);
+      share = h.share.1;
+      pool = pool_room (machine64 z) e;
+    }
 
 -- every frame of a map that fits is below the limit; past its end stands 0
 pub hosts_below : (limit : ℕ) → 0 < limit → (map : List ℕ) → map_fits limit map ≡ true → (i : ℕ) → get_or map i 0 < limit
@@ -84,3 +93,14 @@ hosts_below limit pos map e i = go (dec_lt i (length map))
     go : Dec (i < length map) → get_or map i 0 < limit
     go (yes h) = ltb-true (get_or map i 0) limit (both (ltb (get_or map i 0) limit) (is_new map i (get_or map i 0)) (all-at (λ k. ltb (get_or map k 0) limit && is_new map k (get_or map k 0)) (length map) e i h)).0
     go (no h) = omega (arith, get_or-eq_default map 0 {n = i} (omega (arith, h)))
+
+-- a test at each index of a list is one of its elements
+pub all_list : (f : ℕ → Bool) (xs : List ℕ) → all (length xs) (λ i. f (get_or xs i 0)) ≡ list_all f xs
+unfolding all
+all_list f xs = up_to (length xs) (omega arith) ∙ ap (list_all f) (take-length xs)
+  where
+    up_to : (n : ℕ) → n ≤ length xs → all n (λ i. f (get_or xs i 0)) ≡ list_all f (take n xs)
+    up_to zero h = refl
+    up_to (suc n) h =
+        ap (λ (b : Bool). b && f (get_or xs n 0)) (up_to n (omega arith))
+        ∙ sym (list_all_more f xs n 0 (omega arith)) ∙ ap (λ (k : ℕ). list_all f (take k xs)) (add-one n)

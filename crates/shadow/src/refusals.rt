@@ -1,5 +1,6 @@
 // What setup and the event call test before they act: the lowest number that is due.
-ghost use Rattle.std.specs.Prelude.{◌≡◌, true, [], ◌*◌, ◌≤◌};
+ghost use Rattle.std.specs.Prelude.{◌≡◌, true, not, ◌&&◌, [], ◌*◌, ◌≤◌, length, get_or};
+ghost use Rattle.paging.specs.Numbers.{all};
 ghost use Rattle.rules.specs.Refusal.{refusal_of};
 ghost use Rattle.tables.specs.State.{shadow_of, state_of, machine64};
 ghost use Rattle.tables.specs.SizesCode.{Sized};
@@ -8,6 +9,7 @@ ghost use Rattle.shadow.specs.Refusals.{ranges_fit, lengths_fit, pool_fits, in_p
 use rules::{Event, Refusal};
 use tables::Sizes;
 
+#[tactic(auto, unfolding(crate::specs::Refusals::ranges_fit))]
 fn ranges_fit(z: Sizes) -> bool
     ensures { result ≡ ranges_fit (machine64 z) }
 {
@@ -16,8 +18,9 @@ fn ranges_fit(z: Sizes) -> bool
         && paging::is_between(4, 16, z.share)
 }
 
+#[tactic(auto, unfolding(crate::specs::Refusals::lengths_fit))]
 fn lengths_fit(map: &[u64], pool: &[u64], records: &[u64], slots: &[u64], z: Sizes) -> bool
-    requires { ranges_fit (machine64 z) ≡ true }
+    requires { (z.processors ≤ 4) × (z.processors * z.share ≤ 64) }
     ensures { result ≡ lengths_fit (machine64 z) map.now (shadow_of pool.now records.now) slots.now }
 {
     let tables = (z.processors * z.share) as usize;
@@ -27,14 +30,22 @@ fn lengths_fit(map: &[u64], pool: &[u64], records: &[u64], slots: &[u64], z: Siz
         && slots.len() as u64 == slots::SLOTS_SIZE * z.processors
 }
 
+fn sizes_fit(map: &[u64], pool: &[u64], records: &[u64], slots: &[u64], z: Sizes) -> bool
+    ensures { result ≡ (ranges_fit (machine64 z) && lengths_fit (machine64 z) map.now (shadow_of pool.now records.now) slots.now) }
+{
+    ranges_fit(z) && lengths_fit(map, pool, records, slots, z)
+}
+
 // The pool's end is found without a sum that may wrap.
+#[tactic(auto, unfolding(crate::specs::Refusals::pool_fits))]
 fn pool_fits(z: Sizes) -> bool
-    requires { ranges_fit (machine64 z) ≡ true }
+    requires { z.processors * z.share ≤ 64 }
     ensures { result ≡ pool_fits (machine64 z) }
 {
     z.base <= 0x100_0000_0000 && z.base + z.processors * z.share <= 0x100_0000_0000
 }
 
+#[tactic(auto, unfolding(crate::specs::Refusals::in_pool))]
 fn in_pool(z: Sizes, f: u64) -> bool
     requires { Sized z }
     ensures { result ≡ in_pool (machine64 z) f }
@@ -42,15 +53,22 @@ fn in_pool(z: Sizes, f: u64) -> bool
     z.base <= f && f < z.base + tables::table_count(z)
 }
 
-// The map's frames and the pool's lie below the limit, each once.
+fn outside_pool(map: &[u64], z: Sizes) -> bool
+    requires { Sized z }
+    ensures { result ≡ all (length map.now) (λ i. not (in_pool (machine64 z) (get_or map.now i 0))) }
+{
+    map.iter().all(|f| !in_pool(z, *f))
+}
+
+#[tactic(auto, unfolding(crate::specs::Refusals::frames_fit))]
 fn frames_fit(map: &[u64], z: Sizes) -> bool
     requires { ranges_fit (machine64 z) ≡ true }
     ensures { result ≡ frames_fit (machine64 z) map.now }
 {
-    pool_fits(z) && paging::map_fits(map) && !map.iter().any(|f| in_pool(z, *f))
+    pool_fits(z) && paging::map_fits(map) && outside_pool(map, z)
 }
 
-// Whether an event call is accepted, or the lowest refusal that is due.
+// Whether an event call is accepted; else the lowest refusal that is due.
 pub fn test_call(
     map: &[u64],
     words: &[u64],
@@ -62,17 +80,17 @@ pub fn test_call(
 ) -> Result<(), Refusal>
     ensures { refusal_of result ≡ call_refusal (machine64 z) map.now (state_of words.now (shadow_of pool.now records.now) slots.now) e }
 {
-    let fits = ranges_fit(z)
-        && lengths_fit(map, pool, records, slots, z)
-        && words.len() == paging::FRAME_WORDS * z.frames as usize;
-    rules::unless(fits, Refusal::WrongSizes)?;
+    rules::unless(sizes_fit(map, pool, records, slots, z), Refusal::WrongSizes)?;
+    let long = words.len() == paging::FRAME_WORDS * z.frames as usize;
+    rules::unless(long, Refusal::WrongSizes)?;
     rules::unless(frames_fit(map, z), Refusal::WrongMap)?;
     let lawful = lawful::is_lawful(map, pool, records, slots, z);
     rules::unless(lawful, Refusal::Unlawful)?;
-    // TODO
+    rules::test_event(z.frames, z.processors, e)?;
     rules::unless(z.share > 3, Refusal::TooFewTables)
 }
 
+// Whether a setup is accepted; else the lowest refusal that is due.
 pub fn test_setup(
     map: &[u64],
     cr3s: &[u64],
@@ -83,10 +101,8 @@ pub fn test_setup(
 ) -> Result<(), Refusal>
     ensures { refusal_of result ≡ setup_refusal (machine64 z) map.now cr3s.now (state_of [] (shadow_of pool.now records.now) slots.now) }
 {
-    let fits = ranges_fit(z)
-        && lengths_fit(map, pool, records, slots, z)
-        && cr3s.len() as u64 == z.processors;
-    rules::unless(fits, Refusal::WrongSizes)?;
+    rules::unless(sizes_fit(map, pool, records, slots, z), Refusal::WrongSizes)?;
+    rules::unless(cr3s.len() as u64 == z.processors, Refusal::WrongSizes)?;
     rules::unless(frames_fit(map, z), Refusal::WrongMap)?;
     rules::unless(paging::cr3s_fit(z.frames, cr3s), Refusal::WrongAddress)
 }
