@@ -1,21 +1,17 @@
 -- What the tests of sizes and frames say once they are passed.
-use mathlib.Core.Path.{◌≡◌, refl, sym, ap, ◌∙◌}
-use mathlib.Core.Bool.{Bool, true, ◌&&◌}
+use mathlib.Core.Path.{◌≡◌}
+use mathlib.Core.Bool.{true, ◌&&◌}
 use mathlib.Core.List.{List}
-use Prim.Native.Nat.{ℕ, zero, suc, ◌+◌, ◌*◌, ◌^◌, ◌<◌, ◌≤◌}
+use Prim.Native.Nat.{ℕ, ◌+◌, ◌*◌, ◌^◌, ◌<◌, ◌≤◌}
 use native.Mathlib.Nat.{mul-le-mul}
 use native.Mathlib.Decide.{dec_lt}
-use native.Mathlib.Numerals.{add-one}
 use native.Mathlib.Omega.{arith}
 use lib.Dec.{eqb, ltb}
-use lib.ListN.{length, take, get_or, get_or-eq_default}
+use lib.ListN.{length, get_or, get_or-eq_default}
 use borrow.Author.Tests.{leb-true, ltb-true, eqb-true}
 use Rattle.paging.specs.Frame.{is_new, map_fits}
 use Rattle.paging.specs.Layout.{frame_words}
-use Rattle.std.specs.List.{list_all}
-use Rattle.std.proofs.Math.Seq.{take-length}
-use Rattle.std.proofs.lemmas.List.Folds.{list_all_more}
-use Rattle.paging.specs.Numbers.{all, is_between}
+use Rattle.paging.specs.Numbers.{is_between}
 use Rattle.paging.proofs.Tests.{both}
 use Rattle.paging.proofs.Numbers.{all-at, between}
 use Rattle.tables.specs.declared.Sizes.{Sizes}
@@ -93,14 +89,3 @@ hosts_below limit pos map e i = go (dec_lt i (length map))
     go : Dec (i < length map) → get_or map i 0 < limit
     go (yes h) = ltb-true (get_or map i 0) limit (both (ltb (get_or map i 0) limit) (is_new map i (get_or map i 0)) (all-at (λ k. ltb (get_or map k 0) limit && is_new map k (get_or map k 0)) (length map) e i h)).0
     go (no h) = omega (arith, get_or-eq_default map 0 {n = i} (omega (arith, h)))
-
--- a test at each index of a list is one of its elements
-pub all_list : (f : ℕ → Bool) (xs : List ℕ) → all (length xs) (λ i. f (get_or xs i 0)) ≡ list_all f xs
-unfolding all
-all_list f xs = up_to (length xs) (omega arith) ∙ ap (list_all f) (take-length xs)
-  where
-    up_to : (n : ℕ) → n ≤ length xs → all n (λ i. f (get_or xs i 0)) ≡ list_all f (take n xs)
-    up_to zero h = refl
-    up_to (suc n) h =
-        ap (λ (b : Bool). b && f (get_or xs n 0)) (up_to n (omega arith))
-        ∙ sym (list_all_more f xs n 0 (omega arith)) ∙ ap (λ (k : ℕ). list_all f (take k xs)) (add-one n)

@@ -1,7 +1,6 @@
 -- "What each event does", but for access: store, INVLPG, CR3 write, begin, extend, drop.
 use Rattle.std.specs.Prelude.{cond, ◌&&◌, List, Option, Some, None, ℕ, ◌+◌, ◌-◌, eqb, ltb, set}
-use Rattle.paging.specs.declared.Origin.{Origin}
-use Rattle.paging.specs.declared.Origin.TheVariants.{Of, Nowhere}
+use Rattle.paging.specs.declared.Guest.{Guest}
 use Rattle.paging.specs.Frame.{guest, host, origin_of}
 use Rattle.paging.specs.Layout.{index, page_of, frame_of, rights_of, is_present}
 use Rattle.paging.specs.Walk.{meet}
@@ -39,9 +38,9 @@ abbrev pub by_place : Option ℕ → (ℕ → Reply) → Reply → Reply
 by_place (Some x) on off = on x
 by_place None on off = off
 
-abbrev pub place_of : Origin → Option ℕ
-place_of (Of g) = Some g.0
-place_of Nowhere = None
+abbrev pub place_of : Option Guest → Option ℕ
+place_of (Some g) = Some g.0
+place_of None = None
 
 -- "Store: the word only. Tables are not guarded."
 abbrev pub after_store : ℕ → ℕ → State → Reply

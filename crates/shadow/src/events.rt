@@ -8,7 +8,7 @@ ghost use Rattle.shadow.specs.Moves.{after_store, leaf_cleared, after_invlpg, af
 ghost use Rattle.shadow.specs.ReadyCode.{Standing};
 
 use crate::Answer;
-use paging::{Guest, Host, Origin};
+use paging::{Guest, Host};
 use tables::Sizes;
 
 pub fn store(words: &mut [u64], a: u64, b: u64) -> Answer
@@ -74,16 +74,14 @@ pub fn drop_slot(slots: &mut [u64], p: u64, k: u64) -> Answer
     Answer::Done
 }
 
-// Where a walk moves to from an entry of a level: the guest frame or the table.
+// Where a walk moves to from an entry of a level: the guest frame or the table, if there is one.
+#[tactic(auto, unfolding(crate::specs::Moves::place_below))]
 fn place_below(map: &[u64], z: Sizes, level: u64, e: u64) -> Option<u64>
     requires { Sized z }
     ensures { result ≡ place_below (machine64 z) map.now level e }
 {
     if level == 1 {
-        return match paging::origin_of(map, Host(paging::frame_of(e))) {
-            Origin::Of(g) => Some(g.0),
-            Origin::Nowhere => None,
-        };
+        return paging::origin_of(map, Host(paging::frame_of(e))).map(|g| g.0);
     }
     let u = tables::named_by(z, e);
     (u < tables::table_count(z)).then_some(u)

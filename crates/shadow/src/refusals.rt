@@ -104,5 +104,5 @@ pub fn test_setup(
     rules::unless(sizes_fit(map, pool, records, slots, z), Refusal::WrongSizes)?;
     rules::unless(cr3s.len() as u64 == z.processors, Refusal::WrongSizes)?;
     rules::unless(frames_fit(map, z), Refusal::WrongMap)?;
-    rules::unless(paging::cr3s_fit(z.frames, cr3s), Refusal::WrongAddress)
+    rules::unless(paging::cr3s_fit(z.frames, cr3s), Refusal::NoFrame)
 }

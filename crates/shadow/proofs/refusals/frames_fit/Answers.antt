@@ -1,6 +1,5 @@
 -- The sizes are in range, and so is the pool's end once it is tested.
 use mathlib.Core.Path.{sym, ◌∙◌}
-use Rattle.std.proofs.lemmas.Bool.{false≢true}
 use Rattle.tables.specs.State.{machine64}
 use Rattle.shadow.proofs.Sizing.{few, sized}
 use Rattle.shadow.proofs.refusals.frames_fit.Goals as goal
@@ -13,5 +12,5 @@ pub outside_pool-requires : goal.outside_pool-requires
 outside_pool-requires c =
     elim c.if-pool_fits.branch [
       | then-pool_fits w ↦ sized c.args.z c.requires (sym c.pool_fits.ensures ∙ w.if-pool_fits.true)
-      | else-pool_fits w ↦ absurd (false≢true (sym w.value-is ∙ c.if-map_fits.true))
+      | else-pool_fits w ↦ sized c.args.z c.requires (sym c.pool_fits.ensures ∙ sym w.value-is ∙ c.if-map_fits.true)
     ]

@@ -91,4 +91,4 @@ returns c =
     let a = c.args in
     c.unless-5.ensures
     ∙ call_last (machine64 a.z) a.map.now (state_of a.words.now (shadow_of a.pool.now a.records.now) a.slots.now) a.e (sizes (goal.at.returns c).In_ok-unless) (long (goal.at.returns c).In_ok-unless-2) (frames (goal.at.returns c).In_ok-unless-3) (right (goal.at.returns c).In_ok-unless-4)
-    (c.in_ok-test_event.ensures a.words.now [])
+    (omega arith) (c.in_ok-test_event.ensures a.words.now [])
