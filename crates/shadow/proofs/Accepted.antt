@@ -154,7 +154,7 @@ module _ (M : Machine) (map : List ℕ) (s : State) (e : Event) where
           call_event em some = refusal_more (event_tests (as_setup M s) e) (test 12 (too_few M) ∷ []) em some ∙ passed
 
           -- the last test decides
-          pub call_last : 0 < M.tables.levels → 0 ≡ event_refusal (as_setup M s) e → cond (ltb (M.tables.levels - 1) M.share) 0 12 ≡ call_refusal M map s e
+          pub call_last : 0 < M.share → 0 ≡ event_refusal (as_setup M s) e → cond (ltb (M.tables.levels - 1) M.share) 0 12 ≡ call_refusal M map s e
           unfolding refusal
           call_last some fits =
               enough (dec_lt (M.tables.levels - 1) M.share)

@@ -89,6 +89,7 @@ returns-in_err-test_event c =
 pub returns : goal.returns
 returns c =
     let a = c.args in
+    let sized = frames_sized a.z a.map.now (both (ranges_fit (machine64 a.z)) _ (sizes (goal.at.returns c).In_ok-unless)).0 (frames (goal.at.returns c).In_ok-unless-3) in
     c.unless-5.ensures
     ∙ call_last (machine64 a.z) a.map.now (state_of a.words.now (shadow_of a.pool.now a.records.now) a.slots.now) a.e (sizes (goal.at.returns c).In_ok-unless) (long (goal.at.returns c).In_ok-unless-2) (frames (goal.at.returns c).In_ok-unless-3) (right (goal.at.returns c).In_ok-unless-4)
-    (omega arith) (c.in_ok-test_event.ensures a.words.now [])
+    sized.some (c.in_ok-test_event.ensures a.words.now [])
