@@ -19,9 +19,8 @@ use Rattle.paging.proofs.Layouts.{length-put, get_with_bit, get-past}
 use Rattle.paging.proofs.Indices.{index_small}
 use Rattle.paging.proofs.Rights.{meet_small, rights_small, needs_small}
 use Rattle.tables.specs.declared.Path.{Path}
-use Rattle.guest.specs.declared.Walked.TheVariants.{Whole}
 use Rattle.tables.specs.State.{Machine, State, top, next_entry, descend, path_to}
-use Rattle.guest.specs.GuestWalk.{guest_entry, dirtied}
+use Rattle.guest.specs.GuestWalk.{whole, guest_entry, dirtied}
 use Rattle.tables.specs.Steps.{leaf_of}
 use Rattle.shadow.specs.declared.Answer.{Answer}
 use Rattle.shadow.specs.declared.Answer.TheVariants.{Again}
@@ -82,7 +81,7 @@ pub record Serves (M : Machine) (s : State) (p page : ℕ) (q : Request) : Type 
       (rights_of M.tables (next_entry M s.shadow.pool page (path_to M s.shadow.pool p page 1)))) ≡ true
 
 module _ (M : Machine) (map : List ℕ) (p a b : ℕ) (s : State) (ok : Able M) (spare : M.tables.levels ≤ M.share) (fits : Mapped M map) (hp : p < M.processors) (r : RightState M map s)
-    (last : Guest) (w : Walk) (e : (walked M map p a b s).ended ≡ Whole last w) where
+    (last : Guest) (w : Walk) (e : (walked M map p a b s).ended ≡ whole last w) where
   abbrev page : ℕ
   page = page_of M.tables a
 

@@ -1,4 +1,5 @@
 -- An access that is not to be put again answers what stands in the list.
+use Rattle.std.specs.Prelude.{Err}
 use mathlib.Core.Path.{◌≡◌, sym, ap, subst, ◌∙◌}
 use mathlib.Core.Bool.{true, ◌&&◌}
 use mathlib.Core.Logic.{◌⊎◌, inl, inr}
@@ -37,8 +38,10 @@ use Rattle.promise.proofs.Holds.{seen, Holds}
 use Rattle.promise.proofs.Accessed.{law, reads, rules, walk_ends, walk_held}
 use Rattle.promise.proofs.Started.{holds_before, accepted}
 use Rattle.paging.specs.Sound.{Laid}
-use Rattle.guest.specs.declared.Walked.{Walked}
-use Rattle.guest.specs.declared.Walked.TheVariants.{Fault}
+use Rattle.paging.specs.declared.Stop.{Stop}
+use Rattle.paging.specs.declared.Stop.TheVariants.{Absent, Beyond}
+use Rattle.paging.specs.Walk.{base_of}
+use Rattle.guest.specs.GuestWalk.{Ended}
 use Rattle.slots.specs.Slots.{slot_count, mark_of, page_in, place_in, rights_in, slot_serves}
 use Rattle.shadow.specs.Answer.{Reply}
 use Rattle.promise.specs.Demand as D
@@ -114,14 +117,14 @@ module _ (F : Fresh) (laid : Laid F.machine.tables) (fresh : D.SetupFits F) (r :
       small good o
 
   -- a fault of the guest's walk
-  by_fault : {x : Walked} → Ends M.tables h.laid.sound view M.frames v k (rules F r.events k s h p hp e.a e.b) lawful (reads F r.events k s h p hp e.a e.b) x
-      → (base : ℕ) → x ≡ Fault base → answer_at F r k ≡ Ok (Faulted (base + q.adds)) → Settles F r k
-  by_fault (whole held done) base x o = let n : ◌≡◌ {A = ℕ} 0 1 = cc in absurd (omega arith)
-  by_fault (absent {w = w} {c = c} none held gone) base x o =
-      let y : base ≡ 0 = (let d : base ≡ c = cc in d ∙ none) in
+  by_fault : {x : Ended} → Ends M.tables h.laid.sound view M.frames v k (rules F r.events k s h p hp e.a e.b) lawful (reads F r.events k s h p hp e.a e.b) x
+      → (stop : Stop) → x ≡ Err stop → answer_at F r k ≡ Ok (Faulted (base_of stop + q.adds)) → Settles F r k
+  by_fault (whole held done) stop x o = let n : ◌≡◌ {A = ℕ} 0 1 = cc in absurd (omega arith)
+  by_fault (absent {w = w} held gone) stop x o =
+      let y : stop ≡ Absent = cc in
       stands (rw o (rw y code)) (absent_permitted view lawful q k w held gone)
-  by_fault (beyond {w = w} {c = c} nine held gone) base x o =
-      let y : base ≡ 9 = (let d : base ≡ c = cc in d ∙ nine) in
+  by_fault (beyond {w = w} held gone) stop x o =
+      let y : stop ≡ Beyond = cc in
       stands (rw o (rw y code)) (beyond_permitted view lawful q k w held gone)
 
   way : q.needs < 8 → Way M F.map p e.a e.b s (after M F.map s e) → (answer_at F r k ≡ Ok Again) ⊎ Settles F r k
