@@ -70,7 +70,7 @@ pub fn drop_slot(slots: &mut [u64], p: u64, k: u64) -> Answer
     requires { (p < 4) × (slots_size * p + slots_size ≤ length slots.old) × (k < slot_count) }
     ensures { (w : List ℕ) (h : Shadow) → gives result (state_of w h slots.new) ≡ after_drop p k (state_of w h slots.old) }
 {
-    slots::set_slot(slots, p, k, 0, 0, 0, 0);
+    slots::empty_slot(slots, p, k);
     Answer::Done
 }
 

@@ -8,6 +8,7 @@ mod fill;
 mod refusals;
 
 ghost use Rattle.std.specs.Prelude.{◌≡◌, [], length};
+ghost use Rattle.rules.specs.Numbers.{kind_number};
 ghost use Rattle.tables.specs.State.{shadow_of, state_of, machine64};
 ghost use Rattle.shadow.specs.Answer.{by_number, refusal_of, kind_of, value_of, replies, gives};
 ghost use Rattle.shadow.specs.Moves.{decode};
@@ -17,7 +18,7 @@ ghost use Rattle.shadow.specs.ReadyCode.{Ready, Fitting};
 ghost use Rattle.tables.specs.SizesCode.{Room};
 
 use paging::Guest;
-use rules::{Event, Refusal};
+use rules::{Event, Kind, Refusal};
 use tables::Sizes;
 
 // "Answer: refusal, kind (0 done, 1 address, 2 guest fault, 3 again, 4 no step), value"; `refusal_of`, `kind_of` and
@@ -70,22 +71,23 @@ fn take_step(
     records: &mut [u64],
     slots: &mut [u64],
     z: Sizes,
+    kind: Kind,
     e: Event,
 ) -> Answer
     requires ready { Ready z map.now records.old slots.old e.proc }
+    requires kind { kind_number kind ≡ e.kind }
     requires fitting { Fitting words.old slots.old e }
     ensures { gives result (state_of words.new (shadow_of pool.new records.new) slots.new) ≡ moved (machine64 z) map.now e.proc (decode e) (state_of words.old (shadow_of pool.old records.old) slots.old) }
 {
     let p = e.proc;
-    let kind = e.kind;
     match kind {
-        1 => events::store(words, e.a, e.b),
-        2 => events::invlpg(pool, slots, z, p, e.a),
-        3 => events::write_cr3(pool, records, slots, z, p, e.a),
-        4 => access::access(map, words, pool, records, slots, z, p, e.a, e.b),
-        5 => events::begin(slots, z, p, e.a, e.b),
-        6 => events::extend(map, pool, slots, z, p, e.a),
-        _ => events::drop_slot(slots, p, e.a),
+        Kind::Store => events::store(words, e.a, e.b),
+        Kind::Invlpg => events::invlpg(pool, slots, z, p, e.a),
+        Kind::Cr3Write => events::write_cr3(pool, records, slots, z, p, e.a),
+        Kind::Access => access::access(map, words, pool, records, slots, z, p, e.a, e.b),
+        Kind::Begin => events::begin(slots, z, p, e.a, e.b),
+        Kind::Extend => events::extend(map, pool, slots, z, p, e.a),
+        Kind::Drop => events::drop_slot(slots, p, e.a),
     }
 }
 
@@ -102,7 +104,8 @@ pub fn event(
     ensures { replies (by_number result) (state_of words.new (shadow_of pool.new records.new) slots.new) ≡ after (machine64 z) map.now (state_of words.old (shadow_of pool.old records.old) slots.old) e }
 {
     refusals::test_call(map, words, pool, records, slots, z, e)?;
-    Ok(take_step(map, words, pool, records, slots, z, e))
+    let kind = Kind::try_from(e.kind)?;
+    Ok(take_step(map, words, pool, records, slots, z, kind, e))
 }
 
 // ---- setup
