@@ -20,6 +20,7 @@ pub fn store(words: &mut [u64], a: u64, b: u64) -> Answer
 }
 
 // Clears the page's level 1 entry, if one is reached.
+#[tactic(auto, unfolding(crate::specs::Moves::leaf_cleared))]
 fn clear_leaf(pool: &mut [u64], z: Sizes, p: u64, page: u64)
     requires { Sized z × (p < z.processors) }
     ensures { pool.new ≡ leaf_cleared (machine64 z) p page pool.old }
@@ -30,6 +31,7 @@ fn clear_leaf(pool: &mut [u64], z: Sizes, p: u64, page: u64)
     }
 }
 
+#[tactic(auto, unfolding(crate::specs::Moves::after_invlpg))]
 pub fn invlpg(pool: &mut [u64], slots: &mut [u64], z: Sizes, p: u64, a: u64) -> Answer
     requires { Sized z × (p < z.processors) × (slots_size * p + slots_size ≤ length slots.old) }
     ensures { (w records : List ℕ) → gives result (state_of w (shadow_of pool.new records) slots.new) ≡ after_invlpg (machine64 z) p a (state_of w (shadow_of pool.old records) slots.old) }
@@ -40,6 +42,7 @@ pub fn invlpg(pool: &mut [u64], slots: &mut [u64], z: Sizes, p: u64, a: u64) -> 
     Answer::Done
 }
 
+#[tactic(auto, unfolding(crate::specs::Moves::after_cr3))]
 pub fn write_cr3(
     pool: &mut [u64],
     records: &mut [u64],
@@ -58,6 +61,7 @@ pub fn write_cr3(
     Answer::Done
 }
 
+#[tactic(auto, unfolding(crate::specs::Moves::after_begin))]
 pub fn begin(slots: &mut [u64], z: Sizes, p: u64, a: u64, k: u64) -> Answer
     requires { Sized z × (p < z.processors) × (slots_size * p + slots_size ≤ length slots.old) × (k < slot_count) }
     ensures { (w : List ℕ) (h : Shadow) → gives result (state_of w h slots.new) ≡ after_begin (machine64 z) p a k (state_of w h slots.old) }
@@ -66,6 +70,7 @@ pub fn begin(slots: &mut [u64], z: Sizes, p: u64, a: u64, k: u64) -> Answer
     Answer::Done
 }
 
+#[tactic(auto, unfolding(crate::specs::Moves::after_drop))]
 pub fn drop_slot(slots: &mut [u64], p: u64, k: u64) -> Answer
     requires { (p < 4) × (slots_size * p + slots_size ≤ length slots.old) × (k < slot_count) }
     ensures { (w : List ℕ) (h : Shadow) → gives result (state_of w h slots.new) ≡ after_drop p k (state_of w h slots.old) }

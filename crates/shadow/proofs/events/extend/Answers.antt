@@ -52,15 +52,19 @@ set_slot-requires c =
     let a = c.args in
     let q = a.slots.now in
     let small = place_small (machine64 a.z) a.map.now (get_or q c.slot_at-at.result 0 - 1) c.entry_at-e.result c.in-Some.place (sym c.place_below.ensures ∙ c.in-Some.is) in (
-      omega (arith, c.requires.0.processors),
+      (omega (arith, c.requires.0.processors), c.requires.2),
       c.requires.3,
-      c.requires.2,
       omega (arith, small, c.requires.4, few c.requires.0),
       omega (arith, c.shared_rights-rights.ensures, meet_small (get_or q (c.slot_at-at.result + 2) 0 % 8) c.rights_of.result),
     )
 
 pub returns-in_default : goal.returns-in_default
-returns-in_default c w records = ?
+returns-in_default c w records =
+    let a = c.args in
+    extend_off (machine64 a.z) a.map.now a.p a.k (state_of w (shadow_of a.pool.now records) a.slots.now) (mark-is (goal.at.returns-in_default c).After-slot_at-at) _ _ _ _
+    (page_is (goal.at.returns-in_default c).After-slot_at-at) (third-is (goal.at.returns-in_default c).After-slot_at-at) c.index_of.ensures c.entry_at-e.ensures c.if-mark-lt2.false
+    (sym c.present.ensures ∙ c.if-not-present.false)
+    c.place_below.ensures c.in_default.is
 
 pub returns : goal.returns
 returns c w records =
