@@ -35,7 +35,7 @@ use Rattle.promise.proofs.Holds.{U, drops, seen, ends, Holds, Pathed, Slotted, s
 use Rattle.promise.proofs.Carries.{After, sized, fits, hp, still, kept-words}
 use Rattle.slots.specs.Slots.{slot_count, page_in}
 use Rattle.paging.proofs.Counts.{by_cases}
-use Rattle.shadow.specs.Answer.{Result}
+use Rattle.shadow.specs.Answer.{Reply}
 use Rattle.shadow.specs.Fill.{fill}
 use Rattle.shadow.specs.Access.{after_access}
 use Rattle.shadow.specs.Refusals.{call_refusal}
@@ -182,7 +182,7 @@ module _ (F : Fresh) (es : List Event) (k : ℕ) (s : State) (h : Holds F es k s
     fault_holds : After F es k s h ok (faulted M p page (walked_over M map p e.a e.b s))
     fault_holds = still F es k s h ok (λ x. omega arith) unended three (walked M map p e.a e.b s).words (walk_same M map p e.a e.b s h.laid.sound)
 
-    way : {out : Result} → Way M map p e.a e.b s out → After F es k s h ok out.state
+    way : {out : Reply} → Way M map p e.a e.b s out → After F es k s h ok out.state
     way (slot j hj v o) = rw o (still F es k s h ok (λ x. omega arith) unended three s.words (same_refl M.tables s.words))
     way (shadow x v o) = rw o (still F es k s h ok (λ x. omega arith) unended three s.words (same_refl M.tables s.words))
     way (fault base x o) = rw o fault_holds

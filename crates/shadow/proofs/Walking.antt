@@ -20,7 +20,7 @@ use Rattle.tables.specs.State.{Machine, State, state_of, shadows, root_of}
 use Rattle.shadow.specs.declared.Answer.TheVariants.{Fault as Faulted, Again}
 use Rattle.shadow.specs.Access.{faulted}
 use Rattle.guest.specs.GuestWalk.{Ended, whole, GuestWalk, guest_walk, by_step, walk_from, walk_guest, dirtied}
-use Rattle.shadow.specs.Answer.{Result, gives}
+use Rattle.shadow.specs.Answer.{Reply, gives}
 use Rattle.shadow.specs.Fill.{fill}
 use Rattle.shadow.specs.Access.{after_walk, after_miss}
 
@@ -57,7 +57,7 @@ module _ (Y : Layout) (G page limit : ℕ) (most : G ≤ limit) where
       rw q (walk_range Y.levels words cr3 (start Y cr3) h h (omega arith))
 
 module _ (M : Machine) (map : List ℕ) (p page : ℕ) (q : Request) (s : State) where
-  abbrev ends : GuestWalk → Result
+  abbrev ends : GuestWalk → Reply
   ends d = after_walk M map p page q (state_of d.words s.shadow s.slots) d.ended
 
   module _ {root : ℕ} {cr3 : Guest} {words : List ℕ} {r : Ended} (er : root ≡ root_of M p) (ec : cr3 ≡ shadows s.shadow.records root)
