@@ -1,11 +1,9 @@
 -- One line. Its kind has one digit, its other numbers at most twenty.
-use Rattle.std.proofs.Common.{◌≡◌, ℕ, List, [], ◌∷◌, ◌+◌, ◌^◌, ◌≤◌, ◌<◌, length, ap, ◌∙◌, arith, length-append}
+use Rattle.std.proofs.Common.{◌≡◌, ℕ, List, [], ◌∷◌, ◌+◌, ◌^◌, ◌≤◌, ◌<◌, length, ap, arith, length-append}
 use Rattle.cursor.specs.Text.{digits_of, spaced}
 use Rattle.render.specs.Render.{render_event}
-use Rattle.render.specs.WrittenCode.{Out, out_of}
-use Rattle.render.proofs.Writes.{written_at}
 use Rattle.render.proofs.Digits.{digits_small, length_word}
-use Rattle.render.proofs.put_event.Goals as goal
+use Rattle.render.proofs.Lines.put_event.Goals as goal
 
 length_number : (n : ℕ) (ns : List ℕ) → length (spaced (n ∷ ns)) ≡ 1 + length (digits_of n) + length (spaced ns)
 unfolding spaced
@@ -20,4 +18,4 @@ pub returns : goal.returns
 returns c =
     let a = c.args in
     let e = c.put_line.ensures.0 in
-    (e, omega (arith, length_event a.index a.kind a.value (omega arith) c.requires.1 (omega arith), ap (λ (o : Out). o.at) e ∙ written_at (render_event a.index a.kind a.value) (out_of a.at a.out.now)))
+    (e, omega (arith, e.at, length_event a.index a.kind a.value (omega arith) c.requires.1 (omega arith)))
