@@ -1,3 +1,3 @@
 pub mod Writes
 pub mod Digits
-pub mod Pieces
+pub mod Lines

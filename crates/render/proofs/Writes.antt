@@ -7,7 +7,7 @@ use native.Mathlib.Omega.{arith}
 use lib.ListN.{length, drop, set, length-append}
 use lib.Seq.{sets, sets-eq}
 use Rattle.std.proofs.lemmas.List.{append_assoc}
-use Rattle.render.specs.declared.Lines.{Lines}
+use Rattle.render.specs.declared.Printer.{Printer}
 use Rattle.render.specs.WrittenCode.{Out, out_of, written, place_of, Puts}
 
 pub written_append : (xs ys : List ℕ) (o : Out) → written (xs ++ ys) o ≡ written ys (written xs o)
@@ -30,11 +30,11 @@ written_front xs buffer h =
 
 -- ---- pieces behind one another
 
-pub puts_none : (l : Lines) → Puts [] l l
+pub puts_none : (l : Printer) → Puts [] l l
 unfolding written
 puts_none l = record { same = refl; long = refl; at = omega arith; wrote = refl }
 
-pub puts_append : {xs ys : List ℕ} {a b c : Lines} → Puts xs a b → Puts ys b c → Puts (xs ++ ys) a c
+pub puts_append : {xs ys : List ℕ} {a b c : Printer} → Puts xs a b → Puts ys b c → Puts (xs ++ ys) a c
 puts_append {xs} {ys} {a} p q =
     record {
       same = q.same ∙ p.same;
@@ -43,19 +43,19 @@ puts_append {xs} {ys} {a} p q =
       wrote = q.wrote ∙ ap (written ys) p.wrote ∙ sym (written_append xs ys (place_of a));
     }
 
-pub puts_as : {xs ys : List ℕ} {a b : Lines} → xs ≡ ys → Puts xs a b → Puts ys a b
+pub puts_as : {xs ys : List ℕ} {a b : Printer} → xs ≡ ys → Puts xs a b → Puts ys a b
 puts_as {a} {b} e p = subst (λ (l : List ℕ). Puts l a b) e p
 
 -- what was written is the front of `whole`, and `rest` is what is left of it
-pub record Owes (whole rest : List ℕ) (before now : Lines) : Type 0 where
+pub record Owes (whole rest : List ℕ) (before now : Printer) : Type 0 where
   pub front : List ℕ
   pub is : front ++ rest ≡ whole
   pub puts : Puts front before now
 
-pub owes_all : (whole : List ℕ) (l : Lines) → Owes whole whole l l
+pub owes_all : (whole : List ℕ) (l : Printer) → Owes whole whole l l
 owes_all whole l = record { front = []; is = refl; puts = puts_none l }
 
-pub owes_put : {whole rest xs ys : List ℕ} {a b c : Lines} → rest ≡ xs ++ ys → Owes whole rest a b → Puts xs b c → Owes whole ys a c
+pub owes_put : {whole rest xs ys : List ℕ} {a b c : Printer} → rest ≡ xs ++ ys → Owes whole rest a b → Puts xs b c → Owes whole ys a c
 owes_put {xs} {ys} e o p =
     record {
       front = o.front ++ xs;
@@ -63,8 +63,8 @@ owes_put {xs} {ys} e o p =
       puts = puts_append o.puts p;
     }
 
-pub owes_last : {whole rest : List ℕ} {a b c : Lines} → Owes whole rest a b → Puts rest b c → Puts whole a c
+pub owes_last : {whole rest : List ℕ} {a b c : Printer} → Owes whole rest a b → Puts rest b c → Puts whole a c
 owes_last o p = puts_as o.is (puts_append o.puts p)
 
-pub owes_end : {whole rest : List ℕ} {a b : Lines} → rest ≡ [] → Owes whole rest a b → Puts whole a b
+pub owes_end : {whole rest : List ℕ} {a b : Printer} → rest ≡ [] → Owes whole rest a b → Puts whole a b
 owes_end {b} e o = owes_last o (puts_as (sym e) (puts_none b))

@@ -12,16 +12,16 @@ use rules::Question;
 
 // A lent buffer, and the place of the next byte.
 #[derive(Drop)]
-pub struct Lines<'a> {
+pub struct Printer<'a> {
     out: &'a mut [u8],
     at: usize,
 }
 
-impl<'a> Lines<'a> {
-    pub fn new(out: &'a mut [u8]) -> Lines<'a>
+impl<'a> Printer<'a> {
+    pub fn new(out: &'a mut [u8]) -> Printer<'a>
         ensures { (result.at ≡ 0) × (result.out.ghost_name ≡ out.entry.ghost_name) × (result.out.now ≡ out.old) }
     {
-        Lines { out, at: 0 }
+        Printer { out, at: 0 }
     }
 
     // How many bytes were written.

@@ -1,5 +1,5 @@
 -- The measure is the number.
-use Rattle.render.proofs.Lines.+put_digits.Given as goal
+use Rattle.render.proofs.Printer.+put_digits.Given as goal
 
 abbrev pub decreases-put_digits : goal.decreases-put_digits
 decreases-put_digits l = l.n

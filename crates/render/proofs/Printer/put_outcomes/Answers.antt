@@ -3,8 +3,8 @@ use Rattle.std.proofs.Common.{ℕ, List, length, sym, ap, ◌∙◌, subst, arit
 use Rattle.std.specs.Slice.Iter.{chunks_exact_rest, chunks_exact_size}
 use Rattle.render.specs.LinesCode.{pair_lines, AllMapped}
 use Rattle.render.proofs.Writes.{Owes, owes_all, owes_put, owes_end}
-use Rattle.render.proofs.Pieces.{pair_more, pair_end, mapped_more}
-use Rattle.render.proofs.Lines.put_outcomes.Goals as goal
+use Rattle.render.proofs.Lines.{pair_more, pair_end, mapped_more}
+use Rattle.render.proofs.Printer.put_outcomes.Goals as goal
 
 pub loop-pair-init : goal.loop-pair-init
 loop-pair-init c =

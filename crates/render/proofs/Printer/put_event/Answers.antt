@@ -3,7 +3,7 @@ use Rattle.std.proofs.Common.{◌≡◌, ℕ, List, [], ◌∷◌, ◌+◌, ◌^
 use Rattle.cursor.specs.Text.{digits_of, spaced}
 use Rattle.render.specs.Render.{render_event}
 use Rattle.render.proofs.Digits.{digits_small, length_word}
-use Rattle.render.proofs.Lines.put_event.Goals as goal
+use Rattle.render.proofs.Printer.put_event.Goals as goal
 
 length_number : (n : ℕ) (ns : List ℕ) → length (spaced (n ∷ ns)) ≡ 1 + length (digits_of n) + length (spaced ns)
 unfolding spaced

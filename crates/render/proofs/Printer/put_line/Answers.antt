@@ -1,8 +1,8 @@
 -- The letter, each number, the line feed.
 use Rattle.std.proofs.Common.{sym, arith}
 use Rattle.render.proofs.Writes.{puts_append, puts_as, owes_all, owes_put, owes_last}
-use Rattle.render.proofs.Pieces.{number_more, number_end}
-use Rattle.render.proofs.Lines.put_line.Goals as goal
+use Rattle.render.proofs.Lines.{number_more, number_end}
+use Rattle.render.proofs.Printer.put_line.Goals as goal
 
 pub loop-n-init : goal.loop-n-init
 loop-n-init c = (owes_all _ _, omega arith)

@@ -6,7 +6,7 @@ use Rattle.paging.specs.Frame.{guest, host_of, host_address}
 use Rattle.render.specs.Render.{line}
 use Rattle.render.specs.LinesCode.{pair_line}
 use Rattle.render.proofs.Writes.{puts_as}
-use Rattle.render.proofs.Lines.put_outcome.Goals as goal
+use Rattle.render.proofs.Printer.put_outcome.Goals as goal
 
 address_line : (map : List ℕ) (addr tag v : ℕ) → tag ≡ 0 → line 65 (v ∷ host_address (host_of map (guest v)) addr ∷ []) ≡ pair_line map addr tag v
 unfolding pair_line

@@ -3,7 +3,7 @@ use Rattle.std.proofs.Common.{◌≡◌, ◌+◌, ◌*◌, ◌≤◌, length}
 use Rattle.std.specs.Slice.Iter.{chunks_exact_rest, chunks_exact_size}
 use Rattle.render.specs.LinesCode.{pair_lines, AllMapped}
 use Rattle.render.proofs.Writes.{Owes}
-use Rattle.render.proofs.Lines.put_outcomes.Given as goal
+use Rattle.render.proofs.Printer.put_outcomes.Given as goal
 
 abbrev pub invariant-loop-pair : goal.invariant-loop-pair
 invariant-loop-pair l =

@@ -2,7 +2,7 @@
 use Rattle.std.proofs.Common.{arith}
 use Rattle.render.proofs.Writes.{puts_append}
 use Rattle.render.proofs.Digits.{length_word}
-use Rattle.render.proofs.Lines.put_number.Goals as goal
+use Rattle.render.proofs.Printer.put_number.Goals as goal
 
 pub put_digits-requires : goal.put_digits-requires
 put_digits-requires c = omega (arith, c.put.ensures.at, c.put.ensures.long, c.requires, length_word c.args.n (omega arith))

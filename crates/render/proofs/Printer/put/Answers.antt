@@ -1,7 +1,7 @@
 use Rattle.std.proofs.Common.{refl}
 use Rattle.std.proofs.Math.ListN.{length-set}
 use Rattle.render.specs.WrittenCode.{written}
-use Rattle.render.proofs.Lines.put.Goals as goal
+use Rattle.render.proofs.Printer.put.Goals as goal
 
 pub returns : goal.returns
 unfolding written

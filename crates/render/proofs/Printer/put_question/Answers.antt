@@ -1,7 +1,7 @@
 -- The question's line, then the lines of its outcomes.
 use Rattle.std.proofs.Common.{arith}
 use Rattle.render.proofs.Writes.{puts_append}
-use Rattle.render.proofs.Lines.put_question.Goals as goal
+use Rattle.render.proofs.Printer.put_question.Goals as goal
 
 pub returns : goal.returns
 returns c =
