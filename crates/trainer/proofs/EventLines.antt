@@ -18,8 +18,9 @@ use Rattle.shadow.specs.After.{after}
 use Rattle.shadow.specs.Setup.{started, after_setup}
 use Rattle.shadow.specs.Refusals.{setup_refusal}
 use Rattle.shadow.specs.Runs.{state_after}
-use Rattle.render.specs.WrittenCode.{Out, out_of, written}
-use Rattle.render.proofs.Writes.{written_append}
+use Rattle.render.specs.declared.Printer.{Printer}
+use Rattle.render.specs.WrittenCode.{Puts}
+use Rattle.render.proofs.Writes.{puts_none, puts_append, puts_as}
 use Rattle.trainer.specs.Call.{joined}
 use Rattle.trainer.specs.Run.{answer_line, event_line}
 use Rattle.trainer.proofs.Turns.{joined_more}
@@ -33,37 +34,32 @@ kind_small Again = omega arith
 kind_small NoStep = omega arith
 kind_small (Refused n) = omega arith
 
-module _ (M : Machine) (map : List ℕ) (start : State) (events before : List ℕ) where
+module _ (M : Machine) (map : List ℕ) (start : State) (events : List ℕ) (first : Printer) where
   abbrev pub line_of : ℕ → List ℕ
   line_of = event_line M map start (events_of events)
 
   -- after k events
-  pub record Ran (k at : ℕ) (out : List ℕ) (s : State) : Type 0 where
+  pub record Ran (k : ℕ) (now : Printer) (s : State) : Type 0 where
     pub state : s ≡ state_after M map start (events_of events) k
-    pub wrote : out_of at out ≡ written (joined k line_of) (out_of 0 before)
-    pub few : at ≤ 46 * k
+    pub puts : Puts (joined k line_of) first now
+    pub few : now.at ≤ first.at + 46 * k
 
-  pub ran_none : Ran 0 0 before start
-  unfolding state_after joined written
-  ran_none = record { state = refl; wrote = refl; few = omega arith }
+  pub ran_none : Ran 0 first start
+  unfolding state_after joined
+  ran_none = record { state = refl; puts = puts_none first; few = omega arith }
 
   next_state : (k : ℕ) → (after M map (state_after M map start (events_of events) k) (event_at (events_of events) k)).state ≡ state_after M map start (events_of events) (k + 1)
   unfolding state_after
   next_state k = rw (add-one k)
 
-  pub ran_more : {k at : ℕ} {out : List ℕ} {s : State} → Ran k at out s → k < length events / 4 → {e : Event} → e ≡ event_of events k
-      → {a : Answer} {t : State} → gives a t ≡ after M map s e
-      → {r : ℕ} {last : List ℕ} → out_of r last ≡ written (answer_line (k + 1) a) (out_of at out) → r ≤ at + 46 → Ran (k + 1) r last t
-  ran_more {k} p h q {a} {t} g w few =
-      let o = out_of 0 before in
+  pub ran_more : {k : ℕ} {now : Printer} {s : State} → Ran k now s → k < length events / 4 → {a : Answer} {t : State} → gives a t ≡ after M map s (event_of events k)
+      → {next : Printer} → Puts (answer_line (k + 1) a) now next → next.at ≤ now.at + 46 → Ran (k + 1) next t
+  ran_more {k} p h {a} {t} g w few =
       let step : gives a t ≡ after M map (state_after M map start (events_of events) k) (event_at (events_of events) k) =
-      g ∙ ap₂ (after M map) p.state (q ∙ sym (event-at events k h)) in
+      g ∙ ap₂ (after M map) p.state (sym (event-at events k h)) in
       record {
         state = ap (λ (x : Result). x.state) step ∙ next_state k;
-        wrote = w
-            ∙ ap₂ (λ (x : Result) (y : Out). written (answer_line (k + 1) x.answer) y) step p.wrote
-            ∙ sym (written_append (joined k line_of) (line_of k) o)
-            ∙ ap (λ (l : List ℕ). written l o) (sym (joined_more k line_of));
+        puts = puts_as (sym (joined_more k line_of)) (puts_append p.puts (puts_as (ap (λ (x : Result). answer_line (k + 1) x.answer) step) w));
         few = omega (arith, p.few);
       }
 

@@ -12,8 +12,9 @@ use Rattle.rules.proofs.Theorems.{one_list, a_list}
 use Rattle.rules.specs.Numbers.{events_of, question_of}
 use Rattle.puzzle.specs.Buffers.{Buffers}
 use Rattle.render.specs.Render.{render_question}
-use Rattle.render.specs.WrittenCode.{Out, out_of, written}
-use Rattle.render.proofs.Writes.{written_append}
+use Rattle.render.specs.declared.Printer.{Printer}
+use Rattle.render.specs.WrittenCode.{Puts}
+use Rattle.render.proofs.Writes.{puts_append, puts_as}
 use Rattle.trainer.specs.Call.{joined}
 use Rattle.trainer.specs.Answers.{RightOf, Rendering}
 use Rattle.trainer.specs.PartsCode.{Answered}
@@ -44,14 +45,10 @@ module _ (b : Buffers) where
   abbrev pub lines_of : ℕ → List ℕ
   lines_of k = render_question b.map (question_of b.questions k) (the_list k)
 
-  pub answer_more : (k at : ℕ) (out : List ℕ) (r : ℕ) (last : List ℕ) (o : Out) → out_of at out ≡ written (joined k lines_of) o
-      → Answered b.map b.cr3s b.words b.events (question_of b.questions k) at out r last → out_of r last ≡ written (joined (k + 1) lines_of) o
-  answer_more k at out r last o e a =
-      a.wrote
-      ∙ ap (λ (os : List Outcome). written (render_question b.map (question_of b.questions k) os) (out_of at out)) (one_right k a.list (the_list k) a.right (the_right k))
-      ∙ ap (written (lines_of k)) e
-      ∙ sym (written_append (joined k lines_of) (lines_of k) o)
-      ∙ ap (λ (l : List ℕ). written l o) (sym (joined_more k lines_of))
+  pub answer_more : {k : ℕ} {first now next : Printer} → Puts (joined k lines_of) first now → Answered b (question_of b.questions k) now next → Puts (joined (k + 1) lines_of) first next
+  answer_more {k} p a =
+      let here = ap (λ (os : List Outcome). render_question b.map (question_of b.questions k) os) (one_right k a.list (the_list k) a.right (the_right k)) in
+      puts_as (sym (joined_more k lines_of)) (puts_append p (puts_as here a.puts))
 
   pub rendered : (n : ℕ) → Rendering b n (joined n lines_of)
   rendered n = record { lists = the_list; right = λ k h. the_right k; are = refl }

@@ -1,5 +1,5 @@
 -- The whole call: what was read, and what has been written from the first byte on, as the promise says.
-use mathlib.Core.Path.{◌≡◌, refl, sym, ap, subst⁻¹, ◌∙◌}
+use mathlib.Core.Path.{◌≡◌, refl, sym, ap, ap₂, subst⁻¹, ◌∙◌}
 use mathlib.Core.Bool.{Bool, true, false, cond, ◌&&◌}
 use mathlib.Core.List.{List}
 use Prim.Native.Nat.{ℕ, ◌*◌, ◌/◌, ◌≤◌}
@@ -8,16 +8,18 @@ use lib.Dec.{eqb, leb}
 use lib.ListN.{length, take, drop, replicate, length-append, length-replicate}
 use lib.Seq.{take_at}
 use borrow.Author.Tests.{eq-eqb}
+use Rattle.paging.specs.Layout.{frame_words}
 use Rattle.sections.specs.Sections.{Got, got, refused, Puzzle, puzzle_of}
 use Rattle.puzzle.specs.declared.ReadResult.{ReadResult}
 use Rattle.puzzle.specs.declared.ReadResult.TheVariants.{Accepted, Refused}
 use Rattle.puzzle.specs.Buffers.{Buffers, buffers, After, after, laid, words_of, answer, read_call}
 use Rattle.puzzle.specs.PartsCode.{Lengths}
 use Rattle.puzzle.proofs.Accepted.{accepted}
-use Rattle.render.specs.WrittenCode.{Out, out_of, written}
-use Rattle.render.proofs.Writes.{written_at, written_front}
+use Rattle.render.specs.declared.Printer.{Printer}
+use Rattle.render.specs.WrittenCode.{Out, out_of, place_of, written, Puts}
+use Rattle.render.proofs.Writes.{written_front}
 use Rattle.trainer.specs.Call.{posed, puzzle_in, Lines, Prints, Call, told_of}
-use Rattle.trainer.specs.PartsCode.{Printable, Counts, cut}
+use Rattle.trainer.specs.PartsCode.{Printable}
 use Rattle.trainer.proofs.Puzzles.{Sizes, sizes, ready}
 use Rattle.puzzle.proofs.Theorems as reads
 
@@ -50,6 +52,18 @@ told (refused k j) old new {n} {l} e = let h : Refused n l ≡ Refused k j = ap 
 told (got z at) old new {n} {l} e = let h = ap (λ (x : After). x.result) e in let y : ◌≡◌ {A = ℕ} 0 1 = cc in absurd (omega arith)
 
 -- ---- an accepted text
+
+-- the counts of a puzzle that stands in front of longer buffers
+pub record Counts (b : Buffers) (g p e q : ℕ) : Type 0 where
+  pub map : g ≤ length b.map
+  pub cr3s : p ≤ length b.cr3s
+  pub words : frame_words * g ≤ length b.words
+  pub events : 4 * e ≤ length b.events
+  pub questions : 3 * q ≤ length b.questions
+
+abbrev pub cut : Buffers → ℕ → ℕ → ℕ → ℕ → Buffers
+cut b g p e q =
+    buffers (take g b.map) (take p b.cr3s) (take (frame_words * g) b.words) (take (4 * e) b.events) (take (3 * q) b.questions)
 
 pub record Took (text : List ℕ) (b : Buffers) (g p e q : ℕ) : Type 0 where
   pub puzzle : Puzzle
@@ -99,12 +113,13 @@ took text new eq = took_by text zeros new (puzzle_in text) refl eq
 
 -- ---- what was written
 
-pub call_by : (Of : Lines) (text before : List ℕ) (r : ℕ) (last bytes : List ℕ) (m : Got Puzzle) → puzzle_in text ≡ m → Prints Of m bytes
-    → out_of r last ≡ written bytes (out_of 0 before) → r ≤ 16384 → length before ≡ 16384 → Call Of text before (told_of m r) last
-call_by Of text before r last bytes m is p e few long =
-    let n : r ≡ length bytes = omega (arith, ap (λ (o : Out). o.at) e ∙ written_at bytes (out_of 0 before)) in
+pub call_by : (Of : Lines) (text before bytes : List ℕ) (m : Got Puzzle) → puzzle_in text ≡ m → Prints Of m bytes
+    → {new last : Printer} → new.at ≡ 0 → new.out.now ≡ before → Puts bytes new last → last.at ≤ 16384 → length before ≡ 16384 → Call Of text before (told_of m last.at) last.out.now
+call_by Of text before bytes m is p {new} {last} none same put few long =
+    let n : last.at ≡ length bytes = omega (arith, put.at) in
     let h : length bytes ≤ length before = omega arith in
-    let w = e ∙ written_front bytes before h in
+    let start : place_of new ≡ out_of 0 before = ap₂ out_of none same in
+    let w = put.wrote ∙ ap (written bytes) start ∙ written_front bytes before h in
     record {
       refused = λ d. absurd (d long);
       printed = λ d. record {
