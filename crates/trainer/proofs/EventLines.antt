@@ -6,7 +6,6 @@ use native.Mathlib.Numerals.{add-one}
 use native.Mathlib.Omega.{arith}
 use lib.ListN.{length}
 use borrow.Author.Tests.{eq-eqb}
-use Rattle.rules.specs.declared.Event.{Event}
 use Rattle.rules.specs.History.{event_at}
 use Rattle.rules.specs.Numbers.{event_of, events_of}
 use Rattle.listing.proofs.Accepts.{event-at}

@@ -2,7 +2,7 @@
 use mathlib.Core.Path.{◌≡◌, refl, sym, ap, ap₂, subst⁻¹, ◌∙◌}
 use mathlib.Core.Bool.{Bool, true, false, cond, ◌&&◌}
 use mathlib.Core.List.{List}
-use Prim.Native.Nat.{ℕ, ◌*◌, ◌/◌, ◌≤◌}
+use Prim.Native.Nat.{ℕ, ◌+◌, ◌*◌, ◌/◌, ◌≤◌}
 use native.Mathlib.Omega.{arith}
 use lib.Dec.{eqb, leb}
 use lib.ListN.{length, take, drop, replicate, length-append, length-replicate}
@@ -18,8 +18,9 @@ use Rattle.puzzle.proofs.Accepted.{accepted}
 use Rattle.render.specs.declared.Printer.{Printer}
 use Rattle.render.specs.WrittenCode.{Out, out_of, place_of, written, Puts}
 use Rattle.render.proofs.Writes.{written_front}
-use Rattle.trainer.specs.Call.{posed, puzzle_in, Lines, Prints, Call, told_of}
-use Rattle.trainer.specs.PartsCode.{Printable}
+use Rattle.trainer.specs.declared.Written.{Written}
+use Rattle.trainer.specs.Call.{posed, puzzle_in, Lines, Prints, Call, told_of, output_size}
+use Rattle.trainer.specs.PartsCode.{Printable, PrintedTo}
 use Rattle.trainer.proofs.Puzzles.{Sizes, sizes, ready}
 use Rattle.puzzle.proofs.Theorems as reads
 
@@ -55,15 +56,15 @@ told (got z at) old new {n} {l} e = let h = ap (λ (x : After). x.result) e in l
 
 -- the counts of a puzzle that stands in front of longer buffers
 pub record Counts (b : Buffers) (g p e q : ℕ) : Type 0 where
-  pub map : g ≤ length b.map
-  pub cr3s : p ≤ length b.cr3s
+  pub map : 1 * g ≤ length b.map
+  pub cr3s : 1 * p ≤ length b.cr3s
   pub words : frame_words * g ≤ length b.words
   pub events : 4 * e ≤ length b.events
   pub questions : 3 * q ≤ length b.questions
 
 abbrev pub cut : Buffers → ℕ → ℕ → ℕ → ℕ → Buffers
 cut b g p e q =
-    buffers (take g b.map) (take p b.cr3s) (take (frame_words * g) b.words) (take (4 * e) b.events) (take (3 * q) b.questions)
+    buffers (take (1 * g) b.map) (take (1 * p) b.cr3s) (take (frame_words * g) b.words) (take (4 * e) b.events) (take (3 * q) b.questions)
 
 pub record Took (text : List ℕ) (b : Buffers) (g p e q : ℕ) : Type 0 where
   pub puzzle : Puzzle
@@ -94,8 +95,8 @@ took_by text old new (got z at) {g} {p} {w} {e} {q} says eq =
     let he : e ≡ length z.events / 4 = cc in
     let hq : q ≡ length z.questions / 3 = cc in
     let hw : 512 * g ≡ length (words_of z) = omega (arith, reads.words_long text is) in
-    let fg = front z.map old.map (ap (λ (x : After). x.buffers.map) eq) hg in
-    let fp = front z.cr3s old.cr3s (ap (λ (x : After). x.buffers.cr3s) eq) hp in
+    let fg = front z.map old.map {n = 1 * g} (ap (λ (x : After). x.buffers.map) eq) (omega (arith, hg)) in
+    let fp = front z.cr3s old.cr3s {n = 1 * p} (ap (λ (x : After). x.buffers.cr3s) eq) (omega (arith, hp)) in
     let fw = front (words_of z) old.words (ap (λ (x : After). x.buffers.words) eq) hw in
     let fe = front z.events old.events {n = 4 * e} (ap (λ (x : After). x.buffers.events) eq) (omega (arith, r.fours)) in
     let fq = front z.questions old.questions {n = 3 * q} (ap (λ (x : After). x.buffers.questions) eq) (omega (arith, r.threes)) in
@@ -111,22 +112,34 @@ took_by text old new (got z at) {g} {p} {w} {e} {q} says eq =
 pub took : (text : List ℕ) (new : Buffers) {g p w e q : ℕ} → after (Accepted g p w e q) new ≡ answer (puzzle_in text) zeros → Took text new g p e q
 took text new eq = took_by text zeros new (puzzle_in text) refl eq
 
+-- the fronts are the puzzle's lists
+pub fronts_are : {text : List ℕ} {b : Buffers} {g p e q : ℕ} (t : Took text b g p e q) {map cr3s words events questions : List ℕ}
+    → map ≡ take (1 * g) b.map → cr3s ≡ take (1 * p) b.cr3s → words ≡ take (frame_words * g) b.words → events ≡ take (4 * e) b.events
+    → questions ≡ take (3 * q) b.questions → buffers map cr3s words events questions ≡ posed t.puzzle
+fronts_are t m c w e q = (λ i. buffers (m i) (c i) (w i) (e i) (q i)) ∙ t.fronts
+
 -- ---- what was written
 
-pub call_by : (Of : Lines) (text before bytes : List ℕ) (m : Got Puzzle) → puzzle_in text ≡ m → Prints Of m bytes
-    → {new last : Printer} → new.at ≡ 0 → new.out.now ≡ before → Puts bytes new last → last.at ≤ 16384 → length before ≡ 16384 → Call Of text before (told_of m last.at) last.out.now
-call_by Of text before bytes m is p {new} {last} none same put few long =
-    let n : last.at ≡ length bytes = omega (arith, put.at) in
-    let h : length bytes ≤ length before = omega arith in
+pub printed : {Of : Lines} {text bytes : List ℕ} (m : Got Puzzle) → puzzle_in text ≡ m → Prints Of m bytes
+    → {before after : Printer} → Puts bytes before after → before.at ≡ 0 → after.at ≤ before.at + output_size → {count : ℕ} → count ≡ after.at
+    → PrintedTo Of text (told_of m count) before after
+printed {Of} {bytes} m is p put none few {count} counted =
+    let n : count ≡ length bytes = omega (arith, counted, put.at, none) in
+    record {
+      bytes = bytes;
+      prints = subst⁻¹ (λ (x : Got Puzzle). Prints Of x bytes) is p;
+      counted = ap (told_of m) n ∙ ap (λ (x : Got Puzzle). told_of x (length bytes)) (sym is);
+      puts = put;
+      few = few;
+    }
+
+pub call_by : {Of : Lines} {text before after : List ℕ} {r : Written} {new last : Printer} → PrintedTo Of text r new last
+    → new.at ≡ 0 → new.out.now ≡ before → after ≡ last.out.now → length before ≡ output_size → Call Of text before r after
+call_by {before} {new} {last} p none same behind long =
+    let h : length p.bytes ≤ length before = omega (arith, p.puts.at, p.few, none, long) in
     let start : place_of new ≡ out_of 0 before = ap₂ out_of none same in
-    let w = put.wrote ∙ ap (written bytes) start ∙ written_front bytes before h in
+    let w = p.puts.wrote ∙ ap (written p.bytes) start ∙ written_front p.bytes before h in
     record {
       refused = λ d. absurd (d long);
-      printed = λ d. record {
-        bytes = bytes;
-        prints = subst⁻¹ (λ (x : Got Puzzle). Prints Of x bytes) is p;
-        fits = h;
-        counted = ap (told_of m) n ∙ ap (λ (x : Got Puzzle). told_of x (length bytes)) (sym is);
-        holds = ap (λ (o : Out). o.buffer) w;
-      };
+      printed = λ d. record { bytes = p.bytes; prints = p.prints; fits = h; counted = p.counted; holds = behind ∙ ap (λ (o : Out). o.buffer) w };
     }

@@ -15,11 +15,12 @@ use Rattle.shadow.specs.Answer.{gives}
 use Rattle.shadow.specs.After.{after}
 use Rattle.shadow.specs.Setup.{after_setup}
 use Rattle.sections.specs.Sizes.{words_size, events_size, questions_size}
+use Rattle.trainer.specs.declared.Written.{Written}
 use Rattle.trainer.specs.declared.Lists.{Lists}
 use Rattle.trainer.specs.declared.Session.{Session}
 use Rattle.trainer.specs.declared.Program.{Program}
 use Rattle.trainer.specs.declared.Program.TheVariants.{Answers, Run}
-use Rattle.trainer.specs.Call.{joined, Lines, output_size}
+use Rattle.trainer.specs.Call.{joined, puzzle_in, told_of, Lines, Prints, output_size}
 use Rattle.trainer.specs.Answers.{RightOf, AnswersOf}
 use Rattle.trainer.specs.Run.{event_line, RunOf, Startable}
 
@@ -89,5 +90,13 @@ pub record Printable (b : Buffers) : Type 0 where
 pub record AllPut (Of : Lines) (b : Buffers) (before after : Printer) : Type 0 where
   pub bytes : List ℕ
   pub lines : Of b bytes
+  pub puts : Puts bytes before after
+  pub few : after.at ≤ before.at + output_size
+
+-- what the text stands for was printed
+pub record PrintedTo (Of : Lines) (text : List ℕ) (r : Written) (before after : Printer) : Type 0 where
+  pub bytes : List ℕ
+  pub prints : Prints Of (puzzle_in text) bytes
+  pub counted : r ≡ told_of (puzzle_in text) (length bytes)
   pub puts : Puts bytes before after
   pub few : after.at ≤ before.at + output_size

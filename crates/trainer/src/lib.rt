@@ -1,7 +1,7 @@
 // `answers` and `run`: from the text of a puzzle to the lines that are printed, in a lent buffer.
 #![tactic(auto)]
 
-ghost use Rattle.std.specs.Prelude.{◌≡◌, ◌≤◌, length};
+ghost use Rattle.std.specs.Prelude.{◌≡◌, ◌*◌, ◌≤◌, length, take};
 ghost use Rattle.rules.specs.Numbers.{question_of};
 ghost use Rattle.tables.specs.State.{machine64};
 ghost use Rattle.render.specs.WrittenCode.{HasRoom};
@@ -9,7 +9,7 @@ ghost use Rattle.sections.specs.Sizes.{words_size, events_size};
 ghost use Rattle.trainer.specs.Call.{Call, bytes_of, output_size};
 ghost use Rattle.trainer.specs.Answers.{AnswersOf};
 ghost use Rattle.trainer.specs.Run.{RunOf};
-ghost use Rattle.trainer.specs.PartsCode.{LinesOf, lists_of, state_in, Posed, Found, Answered, Started, Stepped, EventsPut, Printable, AllPut};
+ghost use Rattle.trainer.specs.PartsCode.{LinesOf, lists_of, state_in, Posed, Found, Answered, Started, Stepped, EventsPut, Printable, AllPut, PrintedTo};
 
 use listing::Listed;
 use puzzle::ReadResult;
@@ -59,9 +59,55 @@ pub enum Program {
 }
 
 impl Program {
-    fn put(self, lists: Lists<'_>, printer: &mut Printer<'_>)
-        requires { HasRoom printer.old output_size × Printable (lists_of lists) }
-        ensures { AllPut (LinesOf self) (lists_of lists) printer.old printer.new }
+    fn print(self, text: &[u8], printer: &mut Printer<'_>) -> Written
+        requires { HasRoom printer.old output_size × (printer.old.at ≡ 0) }
+        ensures { PrintedTo (LinesOf self) text.now result printer.old printer.new }
+    {
+        let mut map = [0u64; sections::MOST_FRAMES];
+        let mut cr3s = [0u64; sections::MOST_PROCESSORS];
+        let mut words = [0u64; sections::WORDS_SIZE];
+        let mut events = [0u64; sections::EVENTS_SIZE];
+        let mut questions = [0u64; sections::QUESTIONS_SIZE];
+        match puzzle::read(
+            text,
+            &mut map,
+            &mut cr3s,
+            &mut words,
+            &mut events,
+            &mut questions,
+        ) {
+            ReadResult::Refused(number, line) => {
+                printer.put_line(b'R', &[number, line]);
+                Written::RefusedText(number, line, printer.len() as u64)
+            }
+            ReadResult::Accepted {
+                frames,
+                processors,
+                words: _,
+                events: e,
+                questions: q,
+            } => {
+                let map = front(&map, 1, frames);
+                let cr3s = front(&cr3s, 1, processors);
+                let words = front(&words, paging::FRAME_WORDS, frames);
+                let events = front(&events, 4, e);
+                let questions = front(&questions, 3, q);
+                let lists = Lists {
+                    map,
+                    cr3s,
+                    words,
+                    events,
+                    questions,
+                };
+                self.put(&lists, printer);
+                Written::Bytes(printer.len() as u64)
+            }
+        }
+    }
+
+    fn put(self, lists: &Lists<'_>, printer: &mut Printer<'_>)
+        requires { HasRoom printer.old output_size × Printable (lists_of lists.now) }
+        ensures { AllPut (LinesOf self) (lists_of lists.now) printer.old printer.new }
     {
         match self {
             Program::Answers => lists.put_answers(printer),
@@ -71,7 +117,7 @@ impl Program {
 }
 
 // The lists of a puzzle, as they were read.
-#[derive(Clone, Copy)]
+#[derive(Drop)]
 struct Lists<'a> {
     map: &'a [u64],
     cr3s: &'a [u64],
@@ -84,9 +130,9 @@ impl Lists<'_> {
     // ---- answers
 
     // The list call leaves the stores done in the words, so each question takes a copy of the puzzle's own.
-    fn ask(self, outcomes: &mut [u64; 38], q: Question) -> u64
-        requires { (length self.words.now ≤ words_size) × Posed (lists_of self) q }
-        ensures { Found (lists_of self) q result outcomes.new }
+    fn ask(&self, outcomes: &mut [u64; 38], q: Question) -> u64
+        requires { (length self.now.words.now ≤ words_size) × Posed (lists_of self.now) q }
+        ensures { Found (lists_of self.now) q result outcomes.new }
     {
         let mut work = [0u8; 640];
         let mut buffer = [0u64; sections::WORDS_SIZE];
@@ -106,18 +152,18 @@ impl Lists<'_> {
         }
     }
 
-    fn put_answer(self, printer: &mut Printer<'_>, q: Question)
-        requires { HasRoom printer.old 922 × (length self.words.now ≤ words_size) × Posed (lists_of self) q }
-        ensures { Answered (lists_of self) q printer.old printer.new }
+    fn put_answer(&self, printer: &mut Printer<'_>, q: Question)
+        requires { HasRoom printer.old 922 × (length self.now.words.now ≤ words_size) × Posed (lists_of self.now) q }
+        ensures { Answered (lists_of self.now) q printer.old printer.new }
     {
         let mut outcomes = [0u64; 38];
         let count = self.ask(&mut outcomes, q) as usize;
         printer.put_question(self.map, q, &outcomes[..2 * count]);
     }
 
-    fn put_answers(self, printer: &mut Printer<'_>)
-        requires { HasRoom printer.old output_size × Printable (lists_of self) }
-        ensures { AllPut AnswersOf (lists_of self) printer.old printer.new }
+    fn put_answers(&self, printer: &mut Printer<'_>)
+        requires { HasRoom printer.old output_size × Printable (lists_of self.now) }
+        ensures { AllPut AnswersOf (lists_of self.now) printer.old printer.new }
     {
         for numbers in self.questions.chunks_exact(3) {
             let q = Question {
@@ -132,17 +178,17 @@ impl Lists<'_> {
     // ---- run
 
     // The machine wants exact lengths: four tables with their records, and eight slots, to a processor.
-    fn put_run(self, printer: &mut Printer<'_>)
-        requires { HasRoom printer.old output_size × Printable (lists_of self) }
-        ensures { AllPut RunOf (lists_of self) printer.old printer.new }
+    fn put_run(&self, printer: &mut Printer<'_>)
+        requires { HasRoom printer.old output_size × Printable (lists_of self.now) }
+        ensures { AllPut RunOf (lists_of self.now) printer.old printer.new }
     {
-        let mut words = [0u64; sections::WORDS_SIZE];
+        let mut buffer = [0u64; sections::WORDS_SIZE];
+        let words = &mut buffer[..self.words.len()];
+        words.copy_from_slice(self.words);
         let mut pool = [0u64; POOL];
         let mut records = [0u64; RECORDS];
         let mut slots = [0u64; SLOTS];
-        let g = self.words.len();
         let p = self.cr3s.len();
-        words[..g].copy_from_slice(self.words);
         let mut machine = Session {
             map: self.map,
             sizes: Sizes {
@@ -151,7 +197,7 @@ impl Lists<'_> {
                 share: 4,
                 base: 1 << 20,
             },
-            words: &mut words[..g],
+            words,
             pool: &mut pool[..SHARE_WORDS * p],
             records: &mut records[..SHARE_RECORDS * p],
             slots: &mut slots[..SHARE_SLOTS * p],
@@ -213,6 +259,14 @@ impl Session<'_> {
     }
 }
 
+// The first n parts of a buffer, of so many numbers each.
+fn front(buffer: &[u64], size: usize, n: u64) -> &[u64]
+    requires { size * n ≤ length buffer.now }
+    ensures { result.now ≡ take (size * n) buffer.now }
+{
+    &buffer[..size * n as usize]
+}
+
 // The lines of a program for a text, or `R number line`.
 pub fn print(text: &[u8], output: &mut [u8], program: Program) -> Written
     ensures { Call (LinesOf program) text.now output.old result output.new }
@@ -220,40 +274,6 @@ pub fn print(text: &[u8], output: &mut [u8], program: Program) -> Written
     if output.len() != OUTPUT_SIZE {
         return Written::Refused(1);
     }
-    let mut map = [0u64; sections::MOST_FRAMES];
-    let mut cr3s = [0u64; sections::MOST_PROCESSORS];
-    let mut words = [0u64; sections::WORDS_SIZE];
-    let mut events = [0u64; sections::EVENTS_SIZE];
-    let mut questions = [0u64; sections::QUESTIONS_SIZE];
     let mut printer = Printer::new(output);
-    match puzzle::read(
-        text,
-        &mut map,
-        &mut cr3s,
-        &mut words,
-        &mut events,
-        &mut questions,
-    ) {
-        ReadResult::Refused(number, line) => {
-            printer.put_line(b'R', &[number, line]);
-            Written::RefusedText(number, line, printer.len() as u64)
-        }
-        ReadResult::Accepted {
-            frames,
-            processors,
-            words: _,
-            events: e,
-            questions: q,
-        } => {
-            let lists = Lists {
-                map: &map[..frames as usize],
-                cr3s: &cr3s[..processors as usize],
-                words: &words[..paging::FRAME_WORDS * frames as usize],
-                events: &events[..4 * e as usize],
-                questions: &questions[..3 * q as usize],
-            };
-            program.put(lists, &mut printer);
-            Written::Bytes(printer.len() as u64)
-        }
-    }
+    program.print(text, &mut printer)
 }
