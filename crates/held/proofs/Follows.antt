@@ -71,26 +71,14 @@ module _ (Y : Layout) (G page : ℕ) (words : List ℕ) where
   unfolding reread_at
   reread_elsewhere a l work n = simp (ne_eqb (Y.place (a / frame_words) (index Y page l)) a n)
 
-  pub reread_done : (a l : ℕ) (work : List ℕ) → l ≤ 0 → reread_word Y G page words a l work ≡ work
+  -- the levels from l down, once the first has been taken
+  pub reread-turn : (a l k : ℕ) (work : List ℕ) → l ≡ suc k → reread_word Y G page words a l work ≡ reread_word Y G page words a k (reread_at Y G page words a l work)
   unfolding reread_word
-  reread_done a zero work h = refl
-  reread_done a (suc l) work h = absurd (omega arith)
+  reread-turn a l k work e = rw e
 
-  pub reread-turn : (a l : ℕ) (work : List ℕ) → 0 < l
-      → reread_word Y G page words a l work ≡ reread_word Y G page words a (l - 1) (reread_at Y G page words a l work)
+  pub reread_done : (a : ℕ) (work : List ℕ) → reread_word Y G page words a 0 work ≡ work
   unfolding reread_word
-  reread-turn a zero work h = absurd (omega arith)
-  reread-turn a (suc l) work h = let e : suc l - 1 ≡ l = omega arith in rw e
-
--- one byte more
-pub clear_turn : (k n : ℕ) (work : List ℕ) → 0 < n → cleared k n work ≡ cleared (k + 1) (n - 1) (set work k 0)
-unfolding cleared
-clear_turn k zero work h = absurd (omega arith)
-clear_turn k (suc n) work h = let e : suc n - 1 ≡ n = omega arith in rw e
-
-pub clear_none : (k : ℕ) (work : List ℕ) → cleared k 0 work ≡ work
-unfolding cleared
-clear_none k work = refl
+  reread_done a work = refl
 
 -- a step that is none of the first variant, On, leads nowhere
 pub stops : (f : Walk → List ℕ → List ℕ) (s : Step) (work : List ℕ) → OneOf (1 ∷ 2 ∷ 3 ∷ []) (tag_of the_type s) → onward f s work ≡ work
