@@ -1,5 +1,5 @@
 -- The refusal of an event, kind by kind, as the code tests it.
-use mathlib.Core.Path.{◌≡◌, refl}
+use mathlib.Core.Path.{◌≡◌, refl, ap, ◌∙◌}
 use mathlib.Core.Logic.{◌⊎◌, inl, inr}
 use mathlib.Core.Bool.{Bool, true, false, cond, not, or-false}
 use Prim.Native.Nat.{ℕ, ◌*◌, ◌≤◌, ◌<◌}
@@ -9,7 +9,9 @@ use lib.Dec.{eqb, ltb, leb}
 use borrow.Author.Tests.{ne_eqb, lt-ltb, le-ltb, le-leb, lt-leb}
 use Rattle.paging.specs.Layout.{frame_words}
 use Rattle.rules.specs.declared.Event.{Event}
-use Rattle.rules.specs.Refusal.{refusal}
+use Rattle.rules.specs.declared.Refusal.{Refusal}
+use Rattle.rules.specs.declared.Refusal.TheVariants.{WrongSizes, WrongMap, Unlawful, NoProcessor, WrongAddress, NoRequest, NoFrame, NoWord, NoSlot, NoNumber, OutOfRange, TooFewTables}
+use Rattle.rules.specs.Refusal.{refusal, number_of}
 use Rattle.rules.specs.History.{Setup, event_refusal}
 
 -- a number that is too large, or one that is below
@@ -24,27 +26,54 @@ turn : (b : Bool) (x y : ℕ) → cond (not b) x y ≡ cond b y x
 turn true x y = refl
 turn false x y = refl
 
-lower : (k : ℕ) → (k ≡ 1 → ⊥) → (k ≡ 2 → ⊥) → (k ≡ 3 → ⊥) → 0 < k → 4 ≤ k
-lower k a b c h = omega arith
+-- no refusal has number 0
+pub some_number : (r : Refusal) → 0 < number_of r
+some_number WrongSizes = omega arith
+some_number WrongMap = omega arith
+some_number Unlawful = omega arith
+some_number NoProcessor = omega arith
+some_number WrongAddress = omega arith
+some_number NoRequest = omega arith
+some_number NoFrame = omega arith
+some_number NoWord = omega arith
+some_number NoSlot = omega arith
+some_number NoNumber = omega arith
+some_number OutOfRange = omega arith
+some_number TooFewTables = omega arith
 
-upper : (k : ℕ) → 4 ≤ k → (k ≡ 4 → ⊥) → (k ≡ 5 → ⊥) → (k ≡ 6 → ⊥) → (k ≡ 7 → ⊥) → (7 < k → ⊥) → ⊥
-upper k h a b c d n = omega arith
+-- of two tests, one after the other: the first refuses, or it passes and the second decides
+pub first_refuses : (r : Refusal) (fits : Bool) (m rest : ℕ) → number_of r ≡ cond fits 0 m → number_of r ≡ cond fits rest m
+first_refuses r true m rest e = absurd (omega (arith, some_number r))
+first_refuses r false m rest e = e
 
--- a kind that is none of 1 to 7
-pub known : (k : ℕ) → (k ≡ 1 → ⊥) → (k ≡ 2 → ⊥) → (k ≡ 3 → ⊥) → (k ≡ 4 → ⊥) → (k ≡ 5 → ⊥) → (k ≡ 6 → ⊥) → (k ≡ 7 → ⊥) → (k ≡ 0) ⊎ (7 < k)
-known k n₁ n₂ n₃ n₄ n₅ n₆ n₇ = go (dec_lt 7 k) (dec_lt 0 k)
+pub second_decides : (fits : Bool) (m rest : ℕ) → 0 < m → ◌≡◌ {A = ℕ} 0 (cond fits 0 m) → rest ≡ cond fits rest m
+second_decides true m rest h e = refl
+second_decides false m rest h e = absurd (omega arith)
+
+passed : (p n : ℕ) → ◌≡◌ {A = ℕ} 0 (cond (ltb p n) 0 4) → p < n
+passed p n e = go (dec_lt p n)
   where
-    go : Dec (7 < k) → Dec (0 < k) → (k ≡ 0) ⊎ (7 < k)
-    go (yes a) b = inr a
-    go (no a) (no b) = inl (omega arith)
-    go (no a) (yes b) = absurd (upper k (lower k n₁ n₂ n₃ b) n₄ n₅ n₆ n₇ a)
+    go : Dec (p < n) → p < n
+    go (yes h) = h
+    go (no h) = absurd (omega (arith, e ∙ ap (λ (b : Bool). cond b 0 4) (le-ltb p n (omega arith))))
 
 module _ (U : Setup) (e : Event) where
-  pub too_many : U.processors ≤ e.proc → event_refusal U e ≡ 4
+  too_many : U.processors ≤ e.proc → event_refusal U e ≡ 4
   unfolding event_refusal refusal
   too_many h = simp (le-leb U.processors e.proc h)
 
-  module _ (h : e.proc < U.processors) where
+  pub by_processor : event_refusal U e ≡ cond (ltb e.proc U.processors) (event_refusal U e) 4
+  by_processor = go (dec_lt e.proc U.processors)
+    where
+      go : Dec (e.proc < U.processors) → event_refusal U e ≡ cond (ltb e.proc U.processors) (event_refusal U e) 4
+      go (yes h) = rw (lt-ltb e.proc U.processors h) refl
+      go (no h) = rw (le-ltb e.proc U.processors (omega arith)) (too_many (omega arith))
+
+  -- the processor passed its test
+  module _ (p : ◌≡◌ {A = ℕ} 0 (cond (ltb e.proc U.processors) 0 4)) where
+    h : e.proc < U.processors
+    h = passed e.proc U.processors p
+
     pub of_store : e.kind ≡ 1 → event_refusal U e ≡ cond (ltb e.a (frame_words * U.frames)) 0 8
     unfolding event_refusal refusal
     of_store k = simp (lt-leb U.processors e.proc h, k) (flip e.a (frame_words * U.frames) 8 0)

@@ -2,8 +2,9 @@
 #![tactic(auto)]
 
 ghost use Rattle.std.specs.Prelude.{◌≡◌, cond, List, ℕ, ◌+◌, ◌*◌, ◌<◌, ◌≤◌, length};
+ghost use Rattle.rules.specs.Refusal.{number_of, refusal_of};
 ghost use Rattle.rules.specs.History.{setup64, event_refusal};
-ghost use Rattle.rules.specs.Numbers.{event_of};
+ghost use Rattle.rules.specs.Numbers.{event_of, Decodes};
 
 use paging::Guest;
 
@@ -43,34 +44,111 @@ pub fn event_at(events: &[u64], k: usize) -> Event
     }
 }
 
-fn unless(fits: bool, number: u64, rest: u64) -> u64
-    ensures { result ≡ cond fits rest number }
-{
-    if fits {
-        return rest;
-    }
-    number
+// Why a call or a text is refused. `number_of` of specs/Refusal has the numbers.
+#[derive(Clone, Copy, Debug, PartialEq, Eq)]
+pub enum Refusal {
+    WrongSizes,
+    WrongMap,
+    Unlawful,
+    NoProcessor,
+    WrongAddress,
+    NoRequest,
+    NoFrame,
+    NoWord,
+    NoSlot,
+    NoNumber,
+    OutOfRange,
+    TooFewTables,
 }
 
-// The lowest number under which an event is refused; 0 if it fits.
-pub fn event_refusal(frames: u64, processors: u64, e: Event) -> u64
-    requires { frames ≤ 256 }
-    ensures { (words cr3s : List ℕ) → result ≡ event_refusal (setup64 frames processors words cr3s) e }
+impl From<Refusal> for u64 {
+    ghost from_gives = { λ r n. n ≡ number_of r };
+
+    fn from(r: Refusal) -> u64 {
+        match r {
+            Refusal::WrongSizes => 1,
+            Refusal::WrongMap => 2,
+            Refusal::Unlawful => 3,
+            Refusal::NoProcessor => 4,
+            Refusal::WrongAddress => 5,
+            Refusal::NoRequest => 6,
+            Refusal::NoFrame => 7,
+            Refusal::NoWord => 8,
+            Refusal::NoSlot => 9,
+            Refusal::NoNumber => 10,
+            Refusal::OutOfRange => 11,
+            Refusal::TooFewTables => 12,
+        }
+    }
+}
+
+// What an event asks for.
+#[derive(Clone, Copy, Debug, PartialEq, Eq)]
+pub enum Kind {
+    Store,
+    Invlpg,
+    Cr3Write,
+    Access,
+    Begin,
+    Extend,
+    Drop,
+}
+
+impl TryFrom<u64> for Kind {
+    type Error = Refusal;
+
+    ghost try_from_gives = { Decodes };
+
+    fn try_from(number: u64) -> Result<Kind, Refusal> {
+        match number {
+            1 => Ok(Kind::Store),
+            2 => Ok(Kind::Invlpg),
+            3 => Ok(Kind::Cr3Write),
+            4 => Ok(Kind::Access),
+            5 => Ok(Kind::Begin),
+            6 => Ok(Kind::Extend),
+            7 => Ok(Kind::Drop),
+            _ => Err(Refusal::OutOfRange),
+        }
+    }
+}
+
+// A test: refused under its number unless it fits.
+pub fn unless(fits: bool, refusal: Refusal) -> Result<(), Refusal>
+    ensures { refusal_of result ≡ cond fits 0 (number_of refusal) }
 {
-    let kind = e.kind;
+    if fits { Ok(()) } else { Err(refusal) }
+}
+
+// Whether an event fits; else the lowest number under which it is refused.
+pub fn test_event(frames: u64, processors: u64, e: Event) -> Result<(), Refusal>
+    requires { frames ≤ 256 }
+    ensures { (words cr3s : List ℕ) → refusal_of result ≡ event_refusal (setup64 frames processors words cr3s) e }
+{
     let a = e.a;
     let b = e.b;
-    if e.proc >= processors {
-        return 4;
-    }
-    match kind {
-        1 => unless(a < paging::FRAME_WORDS as u64 * frames, 8, 0),
-        2 => unless(paging::is_allowed(a), 5, unless(b == 0, 11, 0)),
-        3 => unless(a < frames, 7, unless(b == 0, 11, 0)),
-        4 => unless(paging::is_allowed(a), 5, unless(b < 6, 6, 0)),
-        5 => unless(paging::is_allowed(a), 5, unless(b < 8, 9, 0)),
-        6 => unless(a < 8, 9, unless(b == 0, 11, 0)),
-        7 => unless(a < 8, 9, unless(b == 0, 11, 0)),
-        _ => 11,
+    unless(e.proc < processors, Refusal::NoProcessor)?;
+    match Kind::try_from(e.kind)? {
+        Kind::Store => unless(a < paging::FRAME_WORDS as u64 * frames, Refusal::NoWord),
+        Kind::Invlpg => {
+            unless(paging::is_allowed(a), Refusal::WrongAddress)?;
+            unless(b == 0, Refusal::OutOfRange)
+        }
+        Kind::Cr3Write => {
+            unless(a < frames, Refusal::NoFrame)?;
+            unless(b == 0, Refusal::OutOfRange)
+        }
+        Kind::Access => {
+            unless(paging::is_allowed(a), Refusal::WrongAddress)?;
+            unless(b < 6, Refusal::NoRequest)
+        }
+        Kind::Begin => {
+            unless(paging::is_allowed(a), Refusal::WrongAddress)?;
+            unless(b < 8, Refusal::NoSlot)
+        }
+        Kind::Extend | Kind::Drop => {
+            unless(a < 8, Refusal::NoSlot)?;
+            unless(b == 0, Refusal::OutOfRange)
+        }
     }
 }
