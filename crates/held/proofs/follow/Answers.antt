@@ -9,19 +9,6 @@ use Rattle.held.proofs.Follows.{below, follow_set, follow_new, follow-on, stops_
 use Rattle.paging.specs.Layout.{tables64}
 use Rattle.held.proofs.follow.Goals as goal
 
-pub loop-work-init : goal.loop-work-init
-loop-work-init c = (c.requires.1, refl, refl)
-
-pub cell_of-k-requires : goal.cell_of-k-requires
-cell_of-k-requires c = (c.requires.0.few, c.loop-work.invariant.0)
-
--- src/lib.rt:43:12
-pub bounds-work-k : goal.bounds-work-k
-bounds-work-k c = omega (arith, c.cell_of-k.ensures, cell_below c.args.at.frames c.loop-work.w c.loop-work.invariant.0, c.requires.0.bytes, c.loop-work.invariant.1)
-
-pub shape_of-work-then-work-k-eq1 : goal.shape_of-work-then-work-k-eq1
-shape_of-work-then-work-k-eq1 c = c.loop-work.invariant.1
-
 pub returns-then-work-k-eq1 : goal.returns-then-work-k-eq1
 returns-then-work-k-eq1 c =
     let a = c.args in
@@ -29,15 +16,6 @@ returns-then-work-k-eq1 c =
     let work = c.loop-work.work in
     let m = ap (λ (k : ℕ). get_or work k 0) (sym c.cell_of-k.ensures) ∙ c.if-work-k-eq1.true in
     sym (follow_set tables64 a.at.frames a.at.page a.words.now w work m) ∙ c.loop-work.invariant.2
-
-pub bounds-work-k-in-loop-work : goal.bounds-work-k-in-loop-work
-bounds-work-k-in-loop-work c = omega (arith, c.cell_of-k.ensures, cell_below c.args.at.frames c.loop-work.w c.loop-work.invariant.0, c.requires.0.bytes, c.loop-work.invariant.1)
-
-pub next-requires : goal.next-requires
-next-requires c = (c.requires.0.whole, c.loop-work.invariant.0)
-
-pub shape_of-work-in_default : goal.shape_of-work-in_default
-shape_of-work-in_default c = simp length-set c.loop-work.invariant.1
 
 pub returns-in_default : goal.returns-in_default
 returns-in_default c =

@@ -9,9 +9,6 @@ use Rattle.held.proofs.Follows.{below, reread_unmarked, reread-set, stops_unless
 use Rattle.paging.specs.Layout.{tables64}
 use Rattle.held.proofs.reread.Goals as goal
 
-pub bounds-work-k : goal.bounds-work-k
-bounds-work-k c = omega (arith, c.cell_of-k.ensures, cell_below c.args.at.frames c.args.w c.requires.1, c.requires.0.bytes)
-
 pub returns-then-work-k-ne1 : goal.returns-then-work-k-ne1
 returns-then-work-k-ne1 c =
     let a = c.args in

@@ -6,9 +6,6 @@ use Rattle.held.proofs.Follows.{reread-turn, reread_done}
 use Rattle.paging.specs.Layout.{tables64}
 use Rattle.held.proofs.reread_word.Goals as goal
 
-pub loop-level-init : goal.loop-level-init
-loop-level-init c = refl
-
 pub loop-level-preserved : goal.loop-level-preserved
 loop-level-preserved c =
     let a = c.args in
