@@ -147,12 +147,12 @@ module _ (G page : ℕ) (q : Request) (words work : List ℕ) where
   -- ---- the writers write it
 
   addresses_wrote : (before : List ℕ) → 2 * (G + 3) ≤ length before → (n : ℕ) → n ≤ G
-      → Wrote before (found n) (each n (λ f. pushed (serves G q work f) 0 f) (out_of 0 before)) × (length (found n) ≤ n)
+      → Wrote before (found n) (each n (λ f. pushed (serves G q work f) (Address (guest f))) (out_of 0 before)) × (length (found n) ≤ n)
   unfolding found each
   addresses_wrote before room zero le = (wrote_none before, omega arith)
   addresses_wrote before room (suc n) le =
       let (w, few) = addresses_wrote before room n (omega arith) in (
-        wrote_push before (found n) _ w (omega arith) (serves G q work n) (Address (guest n)) 0 n refl,
+        wrote_push before (found n) _ w (omega arith) (serves G q work n) (Address (guest n)),
         omega (arith, length-append (found n) (ifs (serves G q work n) (Address (guest n))), ifs-length (serves G q work n) (Address (guest n))),
       )
 
@@ -160,14 +160,15 @@ module _ (G page : ℕ) (q : Request) (words work : List ℕ) where
   unfolding collected addresses
   collected_wrote before room =
       let (w, few) = addresses_wrote before room G (omega arith) in
-      let zero-code : pairs (Fault (0 + q.adds) ∷ []) ≡ 1 ∷ q.adds ∷ [] = let z : 0 + q.adds ≡ q.adds = omega arith in rw z in
       let s = stops G page words work 0 in
       let l₀ : length absents ≤ G + 1 = omega (arith, length-append (found G) (ifs s (Fault (0 + q.adds))), ifs-length s (Fault (0 + q.adds))) in
       let m = lacks G q work in
       let l₁ : length lackings ≤ G + 2 = omega (arith, length-append absents (ifs m (Fault (1 + q.adds))), ifs-length m (Fault (1 + q.adds))) in
-      wrote_push before lackings _
-      (wrote_push before absents _ (wrote_push before (found G) _ w (omega arith) s (Fault (0 + q.adds)) 1 q.adds zero-code) (omega arith) m (Fault (1 + q.adds)) 1 (1 + q.adds) refl)
-      (omega arith) (stops G page words work 9) (Fault (9 + q.adds)) 1 (9 + q.adds) refl
+      let zero-code : 0 + q.adds ≡ q.adds = omega arith in
+      rw (← zero-code)
+      (wrote_push before lackings _
+      (wrote_push before absents _ (wrote_push before (found G) _ w (omega arith) s (Fault (0 + q.adds))) (omega arith) m (Fault (1 + q.adds)))
+      (omega arith) (stops G page words work 9) (Fault (9 + q.adds)))
 
 -- ---- and it is the right one
 

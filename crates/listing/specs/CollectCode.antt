@@ -1,5 +1,5 @@
 -- How the code collects the outcomes from the work bytes, in the form of its code.
-use Rattle.std.specs.Prelude.{Bool, cond, not, ◌&&◌, ◌||◌, List, ℕ, ◌+◌, ◌*◌, ◌/◌, ◌%◌, eqb, get_or, set}
+use Rattle.std.specs.Prelude.{Bool, cond, not, ◌&&◌, ◌||◌, List, ℕ, ◌+◌, ◌*◌, ◌/◌, ◌%◌, ◌≤◌, ◌<◌, eqb, length, get_or, set}
 use Rattle.paging.specs.declared.Walk.{Walk}
 use Rattle.paging.specs.declared.Request.{Request}
 use Rattle.paging.specs.declared.Step.{Step}
@@ -7,8 +7,18 @@ use Rattle.paging.specs.declared.Step.TheVariants.{On, Absent, Beyond, Complete}
 use Rattle.paging.specs.Numbers.{some, each}
 use Rattle.paging.specs.Request.{enough}
 use Rattle.listing.specs.declared.Faults.{Faults}
+use Rattle.rules.specs.declared.Outcome.{Outcome}
+use Rattle.rules.specs.declared.Outcome.TheVariants.{Address, Fault}
+use Rattle.paging.specs.Frame.{guest}
+use Rattle.held.specs.Work.{work_bytes}
 use Rattle.held.specs.FollowCode.{is_set, walk_of, step_in}
 use Rattle.paging.specs.Layout.{tables64}
+
+-- bytes that can be read for a request
+pub record Readable (G : ℕ) (q : Request) (work : List ℕ) : Type 0 where
+  pub few : G ≤ 256
+  pub bytes : work_bytes G ≤ length work
+  pub needs : q.needs < 8
 
 -- the outcomes written so far, and the buffer
 pub record Out : Type 0 where
@@ -18,10 +28,22 @@ pub record Out : Type 0 where
 abbrev pub out_of : ℕ → List ℕ → Out
 out_of n b = record { count = n; buffer = b }
 
+-- the pair of an outcome
+abbrev pub tag_of : Outcome → ℕ
+tag_of (Address f) = 0
+tag_of (Fault c) = 1
+
+abbrev pub value_of : Outcome → ℕ
+value_of (Address f) = f.0
+value_of (Fault c) = c
+
+-- one pair more
+abbrev pub written : Outcome → Out → Out
+written x o = out_of (o.count + 1) (set (set o.buffer (2 * o.count) (tag_of x)) (2 * o.count + 1) (value_of x))
+
 -- one pair more, if the test passed
-abbrev pub pushed : Bool → ℕ → ℕ → Out → Out
-pushed yes-it-is tag v o =
-    cond yes-it-is (out_of (o.count + 1) (set (set o.buffer (2 * o.count) tag) (2 * o.count + 1) v)) o
+abbrev pub pushed : Bool → Outcome → Out → Out
+pushed yes-it-is x o = cond yes-it-is (written x o) o
 
 -- the base code of the fault that a step gives; 1 if it gives none
 abbrev pub stop_code : Step → ℕ
@@ -64,9 +86,9 @@ unfoldable pub stops : ℕ → ℕ → List ℕ → List ℕ → ℕ → Bool
 stops G page words work base = some (32 * G) (λ j. stops_at G page words work base (8 * G + j))
 
 unfoldable pub addresses : ℕ → Request → List ℕ → List ℕ → Out
-addresses G q work buffer = each G (λ f. pushed (serves G q work f) 0 f) (out_of 0 buffer)
+addresses G q work buffer = each G (λ f. pushed (serves G q work f) (Address (guest f))) (out_of 0 buffer)
 
 unfoldable pub collected : ℕ → ℕ → Request → List ℕ → List ℕ → List ℕ → Out
 collected G page q words work buffer =
-    pushed (stops G page words work 9) 1 (9 + q.adds)
-    (pushed (lacks G q work) 1 (1 + q.adds) (pushed (stops G page words work 0) 1 q.adds (addresses G q work buffer)))
+    pushed (stops G page words work 9) (Fault (9 + q.adds))
+    (pushed (lacks G q work) (Fault (1 + q.adds)) (pushed (stops G page words work 0) (Fault q.adds) (addresses G q work buffer)))
