@@ -4,9 +4,8 @@ use mathlib.Core.List.{List}
 use Prim.Native.Nat.{ℕ, suc}
 use Rattle.paging.specs.declared.Guest.{Guest}
 use Rattle.paging.specs.declared.Walk.{Walk}
-use Rattle.paging.specs.declared.Step.{Step}
 use Rattle.paging.specs.Layout.{Layout, get, put, index, with_a}
-use Rattle.paging.specs.Walk.{step}
+use Rattle.paging.specs.Walk.{Step, step}
 use Rattle.guest.specs.declared.Walked.TheVariants.{Whole}
 use Rattle.guest.specs.GuestWalk.{GuestWalk, guest_walk, by_step, walk_from}
 

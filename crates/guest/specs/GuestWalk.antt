@@ -1,12 +1,11 @@
 -- "Else the guest tables are walked": each entry that the walk reads, A in those that it extends from, D after a write.
-use Rattle.std.specs.Prelude.{cond, List, ℕ, zero, suc}
+use Rattle.std.specs.Prelude.{cond, List, ℕ, zero, suc, Ok, Err}
 use Rattle.paging.specs.declared.Guest.{Guest}
 use Rattle.paging.specs.declared.Walk.{Walk}
-use Rattle.paging.specs.declared.Step.{Step}
-use Rattle.paging.specs.declared.Step.TheVariants.{On, Absent, Beyond, Complete}
+use Rattle.paging.specs.declared.Stop.TheVariants.{Absent, Beyond, Complete}
 use Rattle.paging.specs.declared.Request.{Request}
 use Rattle.paging.specs.Layout.{Layout, get, put, index, with_a, with_d}
-use Rattle.paging.specs.Walk.{start, step}
+use Rattle.paging.specs.Walk.{Step, start, step}
 use Rattle.paging.specs.Request.{is_write}
 use Rattle.guest.specs.declared.Walked.{Walked}
 use Rattle.guest.specs.declared.Walked.TheVariants.{Whole, Fault}
@@ -21,10 +20,10 @@ guest_walk w r = record { words = w; ended = r }
 
 -- how a walk ends, or goes on, by what it does at its entry
 abbrev pub by_step : List ℕ → Guest → Walk → (Walk → GuestWalk) → Step → GuestWalk
-by_step words last w on (On w') = on w'
-by_step words last w on Absent = guest_walk words (Fault 0)
-by_step words last w on Beyond = guest_walk words (Fault 9)
-by_step words last w on Complete = guest_walk words (Whole last w)
+by_step words last w on (Ok w') = on w'
+by_step words last w on (Err Absent) = guest_walk words (Fault 0)
+by_step words last w on (Err Beyond) = guest_walk words (Fault 9)
+by_step words last w on (Err Complete) = guest_walk words (Whole last w)
 
 module _ (Y : Layout) (G : ℕ) (page : ℕ) where
   -- "Each entry extended from gets A." Here with n entries left to read.

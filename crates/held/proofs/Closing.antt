@@ -1,5 +1,6 @@
 -- What the functions of Follow do to the set of marked walks: it grows; it stays within every set that is closed under
 -- steps; and it is closed under steps but for the walks that are still to be read again.
+use Rattle.std.specs.Prelude.{Ok, Err}
 use mathlib.Core.Path.{◌≡◌, refl, sym, ◌∙◌, ap}
 use mathlib.Core.Logic.{◌⊎◌, inl, inr}
 use mathlib.Core.Bool.{Bool, true, false, cond}
@@ -11,9 +12,9 @@ use lib.Dec.{eqb}
 use lib.ListN.{length, get_or, set, length-set}
 use lib.Seq.{get_or-set_same, get_or-set_other}
 use borrow.Author.Tests.{eqb-true, eqb-false}
+use Rattle.paging.specs.Walk.{Step}
 use Rattle.paging.specs.declared.Walk.{Walk}
-use Rattle.paging.specs.declared.Step.{Step}
-use Rattle.paging.specs.declared.Step.TheVariants.{On, Absent, Beyond, Complete}
+use Rattle.paging.specs.declared.Stop.TheVariants.{Absent, Beyond, Complete}
 use Rattle.paging.specs.Numbers.{each}
 use Rattle.paging.specs.Layout.{Layout, frame_words, index}
 use Rattle.held.specs.Work.{cell, work_bytes, HasByte}
@@ -96,37 +97,37 @@ module _ {G : ℕ} where
 module _ (Y : Layout) (G page : ℕ) (words : List ℕ) where
   -- every marked walk that goes on, goes on to a marked one, or it passes Pend
   abbrev pub Closed : (Walk → Walk → Type 0) → List ℕ → Type 0
-  Closed Pend work = (x y : Walk) → HasByte G x → ByteSet G work x → step_in Y G page words x ≡ On y → ByteSet G work y ⊎ Pend x y
+  Closed Pend work = (x y : Walk) → HasByte G x → ByteSet G work x → step_in Y G page words x ≡ Ok y → ByteSet G work y ⊎ Pend x y
 
   -- all marked walks are of Q, which is closed under steps
   abbrev pub Within : (Walk → Type 0) → List ℕ → Type 0
   Within Q work = (x : Walk) → HasByte G x → ByteSet G work x → Q x
 
   abbrev pub Onto : (Walk → Type 0) → Type 0
-  Onto Q = (x y : Walk) → Q x → step_in Y G page words x ≡ On y → Q y
+  Onto Q = (x y : Walk) → Q x → step_in Y G page words x ≡ Ok y → Q y
 
   -- ---- following
 
   -- one turn: the walk was marked; or it is marked and goes no further; or it is marked and what it goes on to is followed
   data Turn (n : ℕ) (w : Walk) (work : List ℕ) : List ℕ → Type 0 where
     was : {r : List ℕ} → ByteSet G work w → r ≡ work → Turn n w work r
-    ends : {r : List ℕ} → ((y : Walk) → step_in Y G page words w ≡ On y → ⊥) → r ≡ set work (cell G w) 1 → Turn n w work r
-    goes : {r : List ℕ} {w' : Walk} → step_in Y G page words w ≡ On w' → r ≡ follow Y G page words n w' (set work (cell G w) 1) → Turn n w work r
+    ends : {r : List ℕ} → ((y : Walk) → step_in Y G page words w ≡ Ok y → ⊥) → r ≡ set work (cell G w) 1 → Turn n w work r
+    goes : {r : List ℕ} {w' : Walk} → step_in Y G page words w ≡ Ok w' → r ≡ follow Y G page words n w' (set work (cell G w) 1) → Turn n w work r
 
   turn : (n : ℕ) (w : Walk) (work : List ℕ) → Turn n w work (follow Y G page words (suc n) w work)
   unfolding follow
   turn n w work = go (is_set G work w) refl (step_in Y G page words w) refl
     where
-      never : (s : Step) → step_in Y G page words w ≡ s → ((y : Walk) → s ≡ On y → ⊥) → (y : Walk) → step_in Y G page words w ≡ On y → ⊥
+      never : (s : Step) → step_in Y G page words w ≡ s → ((y : Walk) → s ≡ Ok y → ⊥) → (y : Walk) → step_in Y G page words w ≡ Ok y → ⊥
       never s e n y q = n y (sym e ∙ q)
 
       go : (b : Bool) → is_set G work w ≡ b → (s : Step) → step_in Y G page words w ≡ s
           → Turn n w work (cond b work (onward (follow Y G page words n) s (set work (cell G w) 1)))
       go true m s e = was (eqb-true _ 1 m) refl
-      go false m (On w') e = goes e refl
-      go false m Absent e = ends (never Absent e (λ y q. let z : ◌≡◌ {A = ℕ} 0 1 = cc in omega arith)) refl
-      go false m Beyond e = ends (never Beyond e (λ y q. let z : ◌≡◌ {A = ℕ} 0 1 = cc in omega arith)) refl
-      go false m Complete e = ends (never Complete e (λ y q. let z : ◌≡◌ {A = ℕ} 0 1 = cc in omega arith)) refl
+      go false m (Ok w') e = goes e refl
+      go false m (Err Absent) e = ends (never (Err Absent) e (λ y q. let z : ◌≡◌ {A = ℕ} 0 1 = cc in omega arith)) refl
+      go false m (Err Beyond) e = ends (never (Err Beyond) e (λ y q. let z : ◌≡◌ {A = ℕ} 0 1 = cc in omega arith)) refl
+      go false m (Err Complete) e = ends (never (Err Complete) e (λ y q. let z : ◌≡◌ {A = ℕ} 0 1 = cc in omega arith)) refl
 
   set_size : (work : List ℕ) (w : Walk) → work_bytes G ≤ length work → work_bytes G ≤ length (set work (cell G w) 1)
   set_size work w room = omega (arith, length-set work (cell G w) 1)
@@ -137,7 +138,7 @@ module _ (Y : Layout) (G page : ℕ) (words : List ℕ) where
   follow_grows (suc n) w work room h = by (turn n w work) (λ w' e. follow_grows n w' (set work (cell G w) 1) (set_size work w room) (below Y G page words w w' h e).byte)
     where
       by : {r : List ℕ} → Turn n w work r
-          → ((w' : Walk) → step_in Y G page words w ≡ On w' → Grows G (set work (cell G w) 1) (follow Y G page words n w' (set work (cell G w) 1))) → Grows G work r
+          → ((w' : Walk) → step_in Y G page words w ≡ Ok w' → Grows G (set work (cell G w) 1) (follow Y G page words n w' (set work (cell G w) 1))) → Grows G work r
       by (was m e) ih = rw e (grows_refl work)
       by (ends s e) ih = rw e (set_grows work w room h)
       by (goes {w' = w'} s e) ih = rw e (grows_trans (set_grows work w room h) (ih w' s))
@@ -166,13 +167,13 @@ module _ (Y : Layout) (G page : ℕ) (words : List ℕ) where
           pick (inr k) = in-q x hx k
 
       by : {r : List ℕ} → Turn n w work r
-          → ((w' : Walk) → step_in Y G page words w ≡ On w' → Within Q (follow Y G page words n w' (set work (cell G w) 1))) → Within Q r
+          → ((w' : Walk) → step_in Y G page words w ≡ Ok w' → Within Q (follow Y G page words n w' (set work (cell G w) 1))) → Within Q r
       by (was m e) ih = rw e in-q
       by (ends s e) ih = rw e marked
       by (goes {w' = w'} s e) ih = rw e (ih w' s)
 
   -- a walk goes on to one walk
-  one-step : (x y z : Walk) → step_in Y G page words x ≡ On y → step_in Y G page words x ≡ On z → y ≡ z
+  one-step : (x y z : Walk) → step_in Y G page words x ≡ Ok y → step_in Y G page words x ≡ Ok z → y ≡ z
   one-step x y z p q = cc
 
   module _ (Pend : Walk → Walk → Type 0) where
@@ -205,14 +206,14 @@ module _ (Y : Layout) (G page : ℕ) (words : List ℕ) where
             pick (inr (inl p)) = inr p
             pick (inr (inr e)) = inl (rw e m)
 
-        last : ((y : Walk) → step_in Y G page words w ≡ On y → ⊥) → Closed Pend (set work (cell G w) 1)
+        last : ((y : Walk) → step_in Y G page words w ≡ Ok y → ⊥) → Closed Pend (set work (cell G w) 1)
         last no_step x y hx mx s = pick (set_e work w room h x hx mx)
           where
             pick : (x ≡ w) ⊎ ByteSet G work x → ByteSet G (set work (cell G w) 1) y ⊎ Pend x y
             pick (inl e) = absurd (no_step y (rw e at s))
             pick (inr k) = old x y (c x y hx k s)
 
-        more : (w' : Walk) → step_in Y G page words w ≡ On w' → Closed (Waiting w') (set work (cell G w) 1)
+        more : (w' : Walk) → step_in Y G page words w ≡ Ok w' → Closed (Waiting w') (set work (cell G w) 1)
         more w' e x y hx mx s = pick (set_e work w room h x hx mx)
           where
             up : ByteSet G (set work (cell G w) 1) y ⊎ Pend x y → ByteSet G (set work (cell G w) 1) y ⊎ Waiting w' x y
@@ -224,7 +225,7 @@ module _ (Y : Layout) (G page : ℕ) (words : List ℕ) where
             pick (inr k) = up (old x y (c x y hx k s))
 
         by : {r : List ℕ} → Turn n w work r
-            → ((w' : Walk) → step_in Y G page words w ≡ On w' → Closed (Waiting w') (set work (cell G w) 1) → Closed Pend (follow Y G page words n w' (set work (cell G w) 1)))
+            → ((w' : Walk) → step_in Y G page words w ≡ Ok w' → Closed (Waiting w') (set work (cell G w) 1) → Closed Pend (follow Y G page words n w' (set work (cell G w) 1)))
             → Closed Pend r
         by (was m e) ih = rw e (same m)
         by (ends s e) ih = rw e (last s)
@@ -235,22 +236,22 @@ module _ (Y : Layout) (G page : ℕ) (words : List ℕ) where
   -- the walk is not marked; or it goes no further; or what it goes on to is followed
   data Again (w : Walk) (work : List ℕ) : List ℕ → Type 0 where
     unmarked : {r : List ℕ} → (ByteSet G work w → ⊥) → r ≡ work → Again w work r
-    stuck : {r : List ℕ} → ((y : Walk) → step_in Y G page words w ≡ On y → ⊥) → r ≡ work → Again w work r
-    onto : {r : List ℕ} {y : Walk} → ByteSet G work w → step_in Y G page words w ≡ On y → r ≡ followed Y G page words y work → Again w work r
+    stuck : {r : List ℕ} → ((y : Walk) → step_in Y G page words w ≡ Ok y → ⊥) → r ≡ work → Again w work r
+    onto : {r : List ℕ} {y : Walk} → ByteSet G work w → step_in Y G page words w ≡ Ok y → r ≡ followed Y G page words y work → Again w work r
 
   again : (w : Walk) (work : List ℕ) → Again w work (reread Y G page words w work)
   unfolding reread
   again w work = go (is_set G work w) refl (step_in Y G page words w) refl
     where
-      never : (s : Step) → step_in Y G page words w ≡ s → ((y : Walk) → s ≡ On y → ⊥) → (y : Walk) → step_in Y G page words w ≡ On y → ⊥
+      never : (s : Step) → step_in Y G page words w ≡ s → ((y : Walk) → s ≡ Ok y → ⊥) → (y : Walk) → step_in Y G page words w ≡ Ok y → ⊥
       never s e n y q = n y (sym e ∙ q)
 
       go : (b : Bool) → is_set G work w ≡ b → (s : Step) → step_in Y G page words w ≡ s → Again w work (cond b (onward (followed Y G page words) s work) work)
       go false m s e = unmarked (eqb-false _ 1 m) refl
-      go true m (On y) e = onto (eqb-true _ 1 m) e refl
-      go true m Absent e = stuck (never Absent e (λ y q. let z : ◌≡◌ {A = ℕ} 0 1 = cc in omega arith)) refl
-      go true m Beyond e = stuck (never Beyond e (λ y q. let z : ◌≡◌ {A = ℕ} 0 1 = cc in omega arith)) refl
-      go true m Complete e = stuck (never Complete e (λ y q. let z : ◌≡◌ {A = ℕ} 0 1 = cc in omega arith)) refl
+      go true m (Ok y) e = onto (eqb-true _ 1 m) e refl
+      go true m (Err Absent) e = stuck (never (Err Absent) e (λ y q. let z : ◌≡◌ {A = ℕ} 0 1 = cc in omega arith)) refl
+      go true m (Err Beyond) e = stuck (never (Err Beyond) e (λ y q. let z : ◌≡◌ {A = ℕ} 0 1 = cc in omega arith)) refl
+      go true m (Err Complete) e = stuck (never (Err Complete) e (λ y q. let z : ◌≡◌ {A = ℕ} 0 1 = cc in omega arith)) refl
 
   reread_grows : (w : Walk) (work : List ℕ) → work_bytes G ≤ length work → HasByte G w → Grows G work (reread Y G page words w work)
   reread_grows w work room h = by (again w work)
@@ -274,7 +275,7 @@ module _ (Y : Layout) (G page : ℕ) (words : List ℕ) where
       → Closed (λ x y. Pend x y ⊎ (x ≡ w)) work → Closed Pend (reread Y G page words w work)
   reread-closed Pend w work room h c = by (again w work)
     where
-      still : (ByteSet G work w → (y : Walk) → step_in Y G page words w ≡ On y → ⊥) → Closed Pend work
+      still : (ByteSet G work w → (y : Walk) → step_in Y G page words w ≡ Ok y → ⊥) → Closed Pend work
       still none x y hx mx s = pick (c x y hx mx s)
         where
           pick : ByteSet G work y ⊎ (Pend x y ⊎ (x ≡ w)) → ByteSet G work y ⊎ Pend x y
@@ -282,7 +283,7 @@ module _ (Y : Layout) (G page : ℕ) (words : List ℕ) where
           pick (inr (inl p)) = inr p
           pick (inr (inr e)) = absurd (none (rw e at mx) y (rw e at s))
 
-      followed-closed : (y : Walk) → step_in Y G page words w ≡ On y → Closed Pend (followed Y G page words y work)
+      followed-closed : (y : Walk) → step_in Y G page words w ≡ Ok y → Closed Pend (followed Y G page words y work)
       followed-closed y s x z hx mx q = pick (first x z hx mx q)
         where
           waiting : Closed (Waiting (λ x y. Pend x y ⊎ (x ≡ w)) y) work
@@ -443,7 +444,7 @@ module _ (Y : Layout) (G page : ℕ) (words : List ℕ) where
     unfolding reread_word
     word_closed zero work le room c = λ x y hx mx s. pick x y hx s (c x y hx mx s)
       where
-        pick : (x y : Walk) → HasByte G x → step_in Y G page words x ≡ On y → ByteSet G work y ⊎ Stands 0 x → ByteSet G work y ⊎ ⊥
+        pick : (x y : Walk) → HasByte G x → step_in Y G page words x ≡ Ok y → ByteSet G work y ⊎ Stands 0 x → ByteSet G work y ⊎ ⊥
         pick x y hx s (inl k) = inl k
         pick x y hx s (inr t) = absurd (omega (arith, t.level, (below Y G page words x y hx s).level))
     word_closed (suc l) work le room c =

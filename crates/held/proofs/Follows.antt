@@ -1,18 +1,16 @@
 -- Following a chain, turn by turn: the laws that the code's loop cites.
+use Rattle.std.specs.Prelude.{Ok, Err}
 use mathlib.Core.Path.{◌≡◌, refl, ◌∙◌, ap}
 use mathlib.Core.Logic.{◌⊎◌, inl, inr}
 use mathlib.Core.List.{List, [], ◌∷◌}
 use Prim.Native.Nat.{ℕ, zero, suc, ◌+◌, ◌-◌, ◌*◌, ◌/◌, ◌%◌, ◌≤◌, ◌<◌}
 use native.Mathlib.Omega.{arith}
-use types.Run.{OneOf}
-use denote.Enum.Declared.{tag_of}
 use lib.ListN.{get_or, set}
 use borrow.Author.Tests.{eq-eqb, ne_eqb}
+use Rattle.paging.specs.Walk.{Step}
 use Rattle.paging.specs.declared.Walk.{Walk}
-use Rattle.paging.specs.declared.Step.{Step}
-use Rattle.paging.specs.declared.Step.TheVariants.{On, Absent, Beyond, Complete}
+use Rattle.paging.specs.declared.Stop.TheVariants.{Absent, Beyond, Complete}
 use Rattle.paging.specs.Layout.{Layout, frame_words, index, rights_of}
-use Rattle.paging.specs.contracts.Step.{the_type}
 use Rattle.paging.proofs.Steps.{Goes, goes}
 use Rattle.paging.proofs.Rights.{meet_small}
 use Rattle.held.specs.Work.{cell, HasByte}
@@ -24,7 +22,7 @@ module _ (Y : Layout) (G page : ℕ) (words : List ℕ) where
     pub level : w.level ≡ suc w'.level
     pub byte : HasByte G w'
 
-  pub below : (w w' : Walk) → HasByte G w → step_in Y G page words w ≡ On w' → Below w w'
+  pub below : (w w' : Walk) → HasByte G w → step_in Y G page words w ≡ Ok w' → Below w w'
   unfolding step_in
   below w w' h e = by (goes Y G w _ w' e)
     where
@@ -46,10 +44,10 @@ module _ (Y : Layout) (G page : ℕ) (words : List ℕ) where
     unfolding follow
     follow_new s e = simp (ne_eqb (get_or work (cell G w) 0) 1 new, e)
 
-    pub follow-on : (w' : Walk) → HasByte G w → step_in Y G page words w ≡ On w'
+    pub follow-on : (w' : Walk) → HasByte G w → step_in Y G page words w ≡ Ok w'
         → followed Y G page words w work ≡ followed Y G page words w' (set work (cell G w) 1)
     follow-on w' h e =
-        follow_new (On w') e ∙ ap (λ (n : ℕ). follow Y G page words n w' (set work (cell G w) 1)) (below w w' h e).level
+        follow_new (Ok w') e ∙ ap (λ (n : ℕ). follow Y G page words n w' (set work (cell G w) 1)) (below w w' h e).level
 
   -- ---- reading again
 
@@ -80,24 +78,12 @@ module _ (Y : Layout) (G page : ℕ) (words : List ℕ) where
   unfolding reread_word
   reread_done a work = refl
 
--- a step that is none of the first variant, On, leads nowhere
-pub stops : (f : Walk → List ℕ → List ℕ) (s : Step) (work : List ℕ) → OneOf (1 ∷ 2 ∷ 3 ∷ []) (tag_of the_type s) → onward f s work ≡ work
-stops f (On w) work t = absurd (none t)
-  where
-    none : ◌≡◌ {A = ℕ} 0 1 ⊎ (◌≡◌ {A = ℕ} 0 2 ⊎ ◌≡◌ {A = ℕ} 0 3) → ⊥
-    none (inl e) = omega arith
-    none (inr (inl e)) = omega arith
-    none (inr (inr e)) = omega arith
-stops f Absent work t = refl
-stops f Beyond work t = refl
-stops f Complete work t = refl
-
--- the same of a step that is no On, as the code's arm says it
-pub stops_unless_on : (f : Walk → List ℕ → List ℕ) (s : Step) (work : List ℕ) → ((w : Walk) → s ≡ On w → ⊥) → onward f s work ≡ work
-stops_unless_on f (On w) work t = absurd (t w refl)
-stops_unless_on f Absent work t = refl
-stops_unless_on f Beyond work t = refl
-stops_unless_on f Complete work t = refl
+-- a walk that goes no further leads nowhere
+pub stops_unless_on : (f : Walk → List ℕ → List ℕ) (s : Step) (work : List ℕ) → ((w : Walk) → s ≡ Ok w → ⊥) → onward f s work ≡ work
+stops_unless_on f (Ok w) work t = absurd (t w refl)
+stops_unless_on f (Err Absent) work t = refl
+stops_unless_on f (Err Beyond) work t = refl
+stops_unless_on f (Err Complete) work t = refl
 
 -- the entry of index i lies in word a, in 64-bit tables
 pub here_64 : (a i : ℕ) → i ≡ a % frame_words → frame_words * (a / frame_words) + i ≡ a

@@ -1,5 +1,6 @@
 -- The marked walks are the held ones, from moment to moment: after a store that reads its word again, after an event
 -- that changes nothing, and after an INVLPG or CR3 write that forgets and begins anew.
+use Rattle.std.specs.Prelude.{Ok, Err}
 use mathlib.Core.Path.{◌≡◌, refl, sym, ◌∙◌, ap}
 use mathlib.Core.Logic.{◌⊎◌, inl, inr}
 use mathlib.Core.Bool.{not}
@@ -11,7 +12,7 @@ use lib.Dec.{T}
 use lib.ListN.{length, set}
 use lib.Seq.{get_or-set_other}
 use Rattle.paging.specs.declared.Walk.{Walk}
-use Rattle.paging.specs.declared.Step.TheVariants.{On, Complete}
+use Rattle.paging.specs.declared.Stop.TheVariants.{Complete}
 use Rattle.paging.specs.Layout.{Layout, frame_words, get, index}
 use Rattle.paging.specs.Walk.{step}
 use Rattle.paging.specs.Sound.{Sound}
@@ -73,7 +74,7 @@ module _ (Y : Layout) (seen : View) (G page : ℕ) (words : ℕ → List ℕ) wh
           go : Dec (Y.place x.frame.0 (index Y page x.level) ≡ a) → ByteSet G work y ⊎ Stands Y G page (words (suc n)) a ha Y.levels x
           go (yes e) = let u = stands a ha x (kept-level seen t.law (old.sound x hx mx)) e in inr (record { frame = u.frame; place = u.place; level = u.level })
           go (no ne) =
-              let was : step_in Y G page (words n) x ≡ On y = sym (same-entry (words n) a b x ne) ∙ ap (λ (ws : List ℕ). step_in Y G page ws x) (sym store) ∙ s in
+              let was : step_in Y G page (words n) x ≡ Ok y = sym (same-entry (words n) a b x ne) ∙ ap (λ (ws : List ℕ). step_in Y G page ws x) (sym store) ∙ s in
               inl (old.full y (on n x y (old.sound x hx mx) was))
 
       pub after_store : Tracks (suc n) (reread_word Y G page (words (suc n)) a Y.levels work)
@@ -109,7 +110,7 @@ module _ (Y : Layout) (seen : View) (G page : ℕ) (words : ℕ → List ℕ) wh
         full : {m : ℕ} {w : Walk} → Kept seen m w → m ≡ suc n → ByteSet G work w
         full {w = w} (begin e) p = old.full w (begin (e ∙ ap seen.begins p ∙ root))
         full (extend {w = w} {w' = w'} h e) p =
-            let step : step_in Y G page (words n) w ≡ On w' = ap (λ (ws : List ℕ). step_in Y G page ws w) (sym same ∙ ap words (sym p)) ∙ sym (t.reads _ w) ∙ e in
+            let step : step_in Y G page (words n) w ≡ Ok w' = ap (λ (ws : List ℕ). step_in Y G page ws w) (sym same ∙ ap words (sym p)) ∙ sym (t.reads _ w) ∙ e in
             old.full w' (on n w w' (old.sound w (kept_byte h) (full h p)) step)
         full {w = w} (stay {n = k} h u) p = let q : k ≡ n = omega arith in old.full w (rw q at h)
 
@@ -135,8 +136,8 @@ module _ (Y : Layout) (seen : View) (G page : ℕ) (words : ℕ → List ℕ) wh
         -- a complete walk goes nowhere
         still : Closed Y G page (words m) (λ x y. ⊥ ⊎ (y ≡ w₀)) work
         still x y hx mx s =
-            let c : seen.steps m x ≡ Complete = t.law.done m x (done x hx mx) in
-            let e : seen.steps m x ≡ On y = t.reads m x ∙ s in
+            let c : seen.steps m x ≡ (Err Complete) = t.law.done m x (done x hx mx) in
+            let e : seen.steps m x ≡ Ok y = t.reads m x ∙ s in
             let z : ◌≡◌ {A = ℕ} 0 1 = cc in
             absurd (omega arith)
 

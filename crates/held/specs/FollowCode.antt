@@ -1,14 +1,13 @@
 -- What the functions of this crate do to the bytes, each in the form of its code. Nobody has to believe these: proofs/
 -- shows that they mark exactly the held walks.
-use Rattle.std.specs.Prelude.{◌≡◌, Bool, cond, List, ℕ, zero, suc, ◌+◌, ◌-◌, ◌*◌, ◌/◌, ◌≤◌, eqb, length, get_or, set, take, drop, replicate, ◌++◌}
+use Rattle.std.specs.Prelude.{◌≡◌, Bool, cond, List, ℕ, zero, suc, ◌+◌, ◌-◌, ◌*◌, ◌/◌, ◌≤◌, eqb, length, get_or, set, take, drop, replicate, ◌++◌, Ok, Err}
 use Rattle.paging.specs.declared.Guest.{Guest}
 use Rattle.paging.specs.declared.Walk.{Walk}
-use Rattle.paging.specs.declared.Step.{Step}
-use Rattle.paging.specs.declared.Step.TheVariants.{On, Absent, Beyond, Complete}
+use Rattle.paging.specs.declared.Stop.TheVariants.{Absent, Beyond, Complete}
 use Rattle.paging.specs.Numbers.{each}
 use Rattle.paging.specs.Frame.{guest}
 use Rattle.paging.specs.Layout.{Layout, frame_words, get, index}
-use Rattle.paging.specs.Walk.{start, step}
+use Rattle.paging.specs.Walk.{Step, start, step}
 use Rattle.held.specs.Work.{cell, work_bytes}
 
 -- what every function below asks of its buffers
@@ -25,10 +24,10 @@ walk_of l f r = record { level = l; frame = guest f; rights = r }
 
 -- on with the walk that a step leads to
 abbrev pub onward : (Walk → List ℕ → List ℕ) → Step → List ℕ → List ℕ
-onward f (On w) work = f w work
-onward f Absent work = work
-onward f Beyond work = work
-onward f Complete work = work
+onward f (Ok w) work = f w work
+onward f (Err Absent) work = work
+onward f (Err Beyond) work = work
+onward f (Err Complete) work = work
 
 -- n bytes from k on become 0
 unfoldable pub cleared : ℕ → ℕ → List ℕ → List ℕ

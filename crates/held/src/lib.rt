@@ -51,7 +51,7 @@ fn follow(words: &[u64], work: &mut [u8], at: AskedPage, from: Walk)
             return;
         }
         work[k] = 1;
-        let Step::On(on) = next(words, at, w) else {
+        let Ok(on) = next(words, at, w) else {
             return;
         };
         w = on;
@@ -67,7 +67,7 @@ fn reread(words: &[u64], work: &mut [u8], at: AskedPage, w: Walk)
     if work[k] != 1 {
         return;
     }
-    let Step::On(on) = next(words, at, w) else {
+    let Ok(on) = next(words, at, w) else {
         return;
     };
     follow(words, work, at, on);

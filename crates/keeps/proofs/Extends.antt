@@ -1,4 +1,5 @@
 -- A present entry that a partial slot stands before leads somewhere: by the state rules it names a table, or at level 1 a mapped frame.
+use Rattle.std.specs.Prelude.{Option, Some, None}
 use mathlib.Core.Path.{◌≡◌, refl, ap, ◌∙◌}
 use mathlib.Core.Bool.{Bool, true, cond, ◌&&◌}
 use mathlib.Core.List.{List}
@@ -6,8 +7,6 @@ use Prim.Native.Nat.{ℕ, ◌-◌, ◌<◌}
 use native.Mathlib.Decide.{ℕ_discrete}
 use native.Mathlib.Omega.{arith}
 use borrow.Author.Tests.{eq-eqb, ne_eqb, lt-ltb}
-use Rattle.paging.specs.declared.Origin.{Origin}
-use Rattle.paging.specs.declared.Origin.TheVariants.{Of, Nowhere}
 use Rattle.paging.specs.Frame.{host, origin_of}
 use Rattle.paging.specs.Layout.{index, frame_of, rights_of, bit, is_present}
 use Rattle.paging.specs.Walk.{meet}
@@ -29,9 +28,9 @@ use Rattle.trees.proofs.Slots.{Room, with_mark, with_page}
 use Rattle.trees.proofs.SlotRules.{right_partial}
 use Rattle.keeps.proofs.RightStates.{Mapped, RightState, room}
 
-mapped_place : (o : Origin) → is_of o ≡ true → (x : ℕ) × (place_of o ≡ At x)
-mapped_place (Of g) e = (g.0, refl)
-mapped_place Nowhere e = let n : ◌≡◌ {A = ℕ} 0 1 = cc in absurd (omega arith)
+mapped_place : (o : Option Guest) → is_of o ≡ true → (x : ℕ) × (place_of o ≡ At x)
+mapped_place (Some g) e = (g.0, refl)
+mapped_place None e = let n : ◌≡◌ {A = ℕ} 0 1 = cc in absurd (omega arith)
 
 module _ (M : Machine) (ok : Able M) (map : List ℕ) (fits : Mapped M map) (p : ℕ) (hp : p < M.processors) (s : State) (r : RightState M map s) (k : ℕ) (hk : k < slot_count) where
   abbrev mark : ℕ

@@ -1,4 +1,5 @@
 -- Walk steps keep the state rules: begin, extend, and a slot that is lost.
+use Rattle.std.specs.Prelude.{Option, Some, None}
 use mathlib.Core.Path.{◌≡◌, refl, sym, ap, ap₂, subst, ◌∙◌}
 use mathlib.Core.Bool.{Bool, true, false, cond, ◌&&◌}
 use mathlib.Core.List.{List}
@@ -11,8 +12,6 @@ use lib.Dec.{eqb, ltb}
 use lib.Pow.{pow_pos}
 use lib.ListN.{length}
 use borrow.Author.Tests.{ltb-true, eq-eqb, eqb-true}
-use Rattle.paging.specs.declared.Origin.{Origin}
-use Rattle.paging.specs.declared.Origin.TheVariants.{Of, Nowhere}
 use Rattle.paging.specs.Frame.{guest, host, origin_of}
 use Rattle.paging.specs.Layout.{Layout, index, page_of, frame_of, rights_of, is_present}
 use Rattle.paging.specs.Walk.{meet}
@@ -123,13 +122,13 @@ module _ (M : Machine) (ok : Able M) (map : List ℕ) (fits : Mapped M map) (p :
     paged = right-page M s.shadow.pool s.slots p k (r.law.slots p hp k hk)
 
     -- from level 1 it moves to a guest frame, from above to a table
-    pub place_complete : (l x : ℕ) → l ≡ 1 → place_below M map l next ≡ At x → origin_of map (host (frame_of M.tables next)) ≡ Of (guest x)
+    pub place_complete : (l x : ℕ) → l ≡ 1 → place_below M map l next ≡ At x → origin_of map (host (frame_of M.tables next)) ≡ Some (guest x)
     unfolding place_below
     place_complete l x one q = go (origin_of map (host (frame_of M.tables next))) (simp (eq-eqb l 1 one) at q)
       where
-        go : (o : Origin) → place_of o ≡ At x → o ≡ Of (guest x)
-        go (Of g) e = let z : g.0 ≡ x = cc in ap (λ (n : ℕ). Of (guest n)) z
-        go Nowhere e = let z : ◌≡◌ {A = ℕ} 0 1 = cc in absurd (omega arith)
+        go : (o : Option Guest) → place_of o ≡ At x → o ≡ Some (guest x)
+        go (Some g) e = let z : g.0 ≡ x = cc in ap (λ (n : ℕ). Some (guest n)) z
+        go None e = let z : ◌≡◌ {A = ℕ} 0 1 = cc in absurd (omega arith)
 
     place_partial : (l x : ℕ) → (l ≡ 1 → ⊥) → place_below M map l next ≡ At x → (named M next ≡ x) × (x < table_count M)
     unfolding place_below

@@ -1,4 +1,5 @@
 -- The guest's walk that completes: every entry it read is present and inside the guest, in any words that agree but for A and D.
+use Rattle.std.specs.Prelude.{Ok, Err}
 use mathlib.Core.Path.{◌≡◌, refl, sym, ◌∙◌, ap, subst}
 use mathlib.Core.List.{List}
 use mathlib.Core.Logic.{inl}
@@ -6,11 +7,10 @@ use Prim.Native.Nat.{ℕ, zero, suc}
 use native.Mathlib.Omega.{arith}
 use Rattle.paging.specs.declared.Guest.{Guest}
 use Rattle.paging.specs.declared.Walk.{Walk}
-use Rattle.paging.specs.declared.Step.{Step}
-use Rattle.paging.specs.declared.Step.TheVariants.{On, Absent, Beyond, Complete}
+use Rattle.paging.specs.declared.Stop.TheVariants.{Absent, Beyond, Complete}
 use Rattle.paging.specs.Frame.{guest}
 use Rattle.paging.specs.Layout.{get, put, index, frame_of, rights_of, with_a}
-use Rattle.paging.specs.Walk.{meet, step}
+use Rattle.paging.specs.Walk.{Step, meet, step}
 use Rattle.paging.specs.Sound.{Alike, Sound}
 use Rattle.paging.proofs.Layouts.{present_alike, frame_alike, rights_alike}
 use Rattle.paging.proofs.Indices.{index_small}
@@ -56,7 +56,7 @@ module _ (M : Machine) (sound : Sound M.tables) (page : ℕ) (words : List ℕ) 
       alike : Alike e c
       alike = subst (λ (l : ℕ). Alike e (guest_entry M.tables words page l w.frame)) q (s.each w.frame.0 i (index_small M.tables page w.level))
 
-      below : {w' : Walk} → step M.tables M.frames w e ≡ On w' → w'.level ≡ n
+      below : {w' : Walk} → step M.tables M.frames w e ≡ Ok w' → w'.level ≡ n
       below {w'} on = let g = goes M.tables M.frames w e w' on in omega (arith, q, ap (λ (y : Walk). y.level) g.is)
 
       fault : {k : ℕ} {A : Type 0} {last : Guest} {w' : Walk} → Fault k ≡ Whole last w' → A
@@ -66,9 +66,9 @@ module _ (M : Machine) (sound : Sound M.tables) (page : ℕ) (words : List ℕ) 
       on_from w' = walk_from M.tables M.frames page n (put M.tables now w.frame.0 i (with_a e)) w.frame w'
 
       by : (r : Step) → step M.tables M.frames w e ≡ r
-          → ((w' : Walk) → step M.tables M.frames w e ≡ On w' → WalkReads n w.frame w'.frame w'.rights (on_from w'))
+          → ((w' : Walk) → step M.tables M.frames w e ≡ Ok w' → WalkReads n w.frame w'.frame w'.rights (on_from w'))
           → WalkReads (suc n) from w.frame w.rights (by_step now from w on_from r)
-      by (On w') on more = record {
+      by (Ok w') on more = record {
         same = (more w' on).same;
         leads = λ last w'' q.
             let t = goes M.tables M.frames w e w' on in
@@ -87,6 +87,6 @@ module _ (M : Machine) (sound : Sound M.tables) (page : ℕ) (words : List ℕ) 
               λ u. absurd (omega (arith, u)),
             );
       }
-      by Absent r more = record { same = s; leads = λ last w' q. fault q }
-      by Beyond r more = record { same = s; leads = λ last w' q. fault q }
-      by Complete r more = absurd (omega (arith, q, completed M.tables M.frames w e r))
+      by (Err Absent) r more = record { same = s; leads = λ last w' q. fault q }
+      by (Err Beyond) r more = record { same = s; leads = λ last w' q. fault q }
+      by (Err Complete) r more = absurd (omega (arith, q, completed M.tables M.frames w e r))

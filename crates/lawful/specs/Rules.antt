@@ -1,17 +1,15 @@
 -- "State rules", as tests. `lawful` is all of them: first what is asked of each table, then the roots, then each slot.
-use Rattle.std.specs.Prelude.{Bool, true, false, cond, not, ◌&&◌, ◌||◌, List, ℕ, zero, suc, ◌+◌, ◌-◌, ◌*◌, ◌^◌, eqb, ltb, leb}
+use Rattle.std.specs.Prelude.{Bool, true, false, cond, not, ◌&&◌, ◌||◌, List, ℕ, zero, suc, ◌+◌, ◌-◌, ◌*◌, ◌^◌, eqb, ltb, leb, Option, Some, None}
 use Rattle.std.specs.Bool.{beq}
-use Rattle.paging.specs.declared.Origin.{Origin}
-use Rattle.paging.specs.declared.Origin.TheVariants.{Of, Nowhere}
 use Rattle.paging.specs.Frame.{host, origin_of}
 use Rattle.paging.specs.Layout.{Layout, bit, frame_of, rights_of, compose}
 use Rattle.paging.specs.Numbers.{all, sum, count}
 use Rattle.tables.specs.State.{Machine, Shadow, State, level_of, shadows, is_free, table_count, home_of, owner_of, root_of, entry_count, entry_of, named, path_to}
 use Rattle.slots.specs.Slots.{slot_count, mark_of, page_in, place_in, rights_in}
 
-abbrev pub is_of : Origin → Bool
-is_of (Of g) = true
-is_of Nowhere = false
+abbrev pub is_of : Option Guest → Bool
+is_of (Some g) = true
+is_of None = false
 
 -- some guest frame is mapped to host frame f
 abbrev pub is_mapped : List ℕ → ℕ → Bool

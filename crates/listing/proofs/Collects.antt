@@ -1,4 +1,5 @@
 -- The outcomes collected from the bytes of the held walks are the right list.
+use Rattle.std.specs.Prelude.{Ok, Err}
 use mathlib.Core.Path.{◌≡◌, refl, sym, ◌∙◌, ap}
 use mathlib.Core.Logic.{◌⊎◌, inl, inr}
 use mathlib.Core.Bool.{Bool, true, false, cond}
@@ -10,10 +11,10 @@ use native.Mathlib.Omega.{arith}
 use lib.Dec.{eqb}
 use lib.ListN.{length, get_or, length-append}
 use borrow.Author.Tests.{eq-eqb, eqb-true, not-true}
+use Rattle.paging.specs.Walk.{Step}
 use Rattle.paging.specs.declared.Walk.{Walk}
 use Rattle.paging.specs.declared.Request.{Request}
-use Rattle.paging.specs.declared.Step.{Step}
-use Rattle.paging.specs.declared.Step.TheVariants.{On, Absent, Beyond, Complete}
+use Rattle.paging.specs.declared.Stop.TheVariants.{Absent, Beyond, Complete}
 use Rattle.paging.specs.Numbers.{each}
 use Rattle.paging.specs.Frame.{guest}
 use Rattle.paging.specs.Request.{enough}
@@ -173,17 +174,17 @@ module _ (G page : ℕ) (q : Request) (words work : List ℕ) where
 -- ---- and it is the right one
 
 -- a step by its stop code
-absent_is : (s : Step) → stop_code s ≡ 0 → s ≡ Absent
-absent_is (On w) e = absurd (omega arith)
-absent_is Absent e = refl
-absent_is Beyond e = absurd (omega arith)
-absent_is Complete e = absurd (omega arith)
+absent_is : (s : Step) → stop_code s ≡ 0 → s ≡ (Err Absent)
+absent_is (Ok w) e = absurd (omega arith)
+absent_is (Err Absent) e = refl
+absent_is (Err Beyond) e = absurd (omega arith)
+absent_is (Err Complete) e = absurd (omega arith)
 
-beyond_is : (s : Step) → stop_code s ≡ 9 → s ≡ Beyond
-beyond_is (On w) e = absurd (omega arith)
-beyond_is Absent e = absurd (omega arith)
-beyond_is Beyond e = refl
-beyond_is Complete e = absurd (omega arith)
+beyond_is : (s : Step) → stop_code s ≡ 9 → s ≡ (Err Beyond)
+beyond_is (Ok w) e = absurd (omega arith)
+beyond_is (Err Absent) e = absurd (omega arith)
+beyond_is (Err Beyond) e = refl
+beyond_is (Err Complete) e = absurd (omega arith)
 
 module _ (seen : View) (G page : ℕ) (words : ℕ → List ℕ) (t : Told tables64 seen G page words) (some-frame : 0 < G) (q : Request) (n : ℕ) (work : List ℕ)
     (tracks : Tracks tables64 seen G page words n work) where
@@ -202,7 +203,7 @@ module _ (seen : View) (G page : ℕ) (words : ℕ → List ℕ) (t : Told table
       let good : enough q r ≡ true = T_true _ (and_r (is_set G work (walk_of 0 f r)) _ (true_T _ u)) in
       let w = walk_of 0 f r in
       let h = tracks.sound w (record { level = omega arith; frame = hf; rights = hr }) m in
-      permit w Complete (Address (guest f)) h (t.law.done n w refl) (rw good (Memᴰ.head refl))
+      permit w (Err Complete) (Address (guest f)) h (t.law.done n w refl) (rw good (Memᴰ.head refl))
 
   from_lacks : lacks G q work ≡ true → Permitted seen q n (Fault (1 + q.adds))
   unfolding lacks
@@ -213,7 +214,7 @@ module _ (seen : View) (G page : ℕ) (words : ℕ → List ℕ) (t : Told table
       let in-work : k < work_bytes G = omega arith in
       let w = walk_at G k in
       let top : w.level ≡ 0 = (complete_first G w (byte_walk G k some-frame in-work)).0 (omega (arith, byte_cell G k some-frame)) in
-      permit w Complete (Fault (1 + q.adds)) (held_at k in-work m) (t.law.done n w top) (rw bad (Memᴰ.head refl))
+      permit w (Err Complete) (Fault (1 + q.adds)) (held_at k in-work m) (t.law.done n w top) (rw bad (Memᴰ.head refl))
 
   from_stops : (base : ℕ) (s : Step) → ((x : Step) → stop_code x ≡ base → x ≡ s) → (o : Outcome) → ((w : Walk) → Mem o (given q w s))
       → stops G page (words n) work base ≡ true → Permitted seen q n o
@@ -278,7 +279,7 @@ module _ (seen : View) (G page : ℕ) (words : ℕ → List ℕ) (t : Told table
         where
           first : Mem o (found G page q (words n) work G) ⊎ ((stops G page (words n) work 0 ≡ true) × (o ≡ Fault (0 + q.adds))) → Permitted seen q n o
           first (inl k) = let (f, hf, s, e) = found_e G page q (words n) work G o k in rw e (from_serves f hf s)
-          first (inr (s, e)) = rw e (from_stops 0 Absent absent_is (Fault (0 + q.adds)) (λ w. Memᴰ.head refl) s)
+          first (inr (s, e)) = rw e (from_stops 0 (Err Absent) absent_is (Fault (0 + q.adds)) (λ w. Memᴰ.head refl) s)
 
           second : Mem o (absents G page q (words n) work) ⊎ ((lacks G q work ≡ true) × (o ≡ Fault (1 + q.adds))) → Permitted seen q n o
           second (inl k) = first (mem_ifs (found G page q (words n) work G) (stops G page (words n) work 0) (Fault (0 + q.adds)) o k)
@@ -286,7 +287,7 @@ module _ (seen : View) (G page : ℕ) (words : ℕ → List ℕ) (t : Told table
 
           third : Mem o (lackings G page q (words n) work) ⊎ ((stops G page (words n) work 9 ≡ true) × (o ≡ Fault (9 + q.adds))) → Permitted seen q n o
           third (inl k) = second (mem_ifs (absents G page q (words n) work) (lacks G q work) (Fault (1 + q.adds)) o k)
-          third (inr (s, e)) = rw e (from_stops 9 Beyond beyond_is (Fault (9 + q.adds)) (λ w. Memᴰ.head refl) s)
+          third (inr (s, e)) = rw e (from_stops 9 (Err Beyond) beyond_is (Fault (9 + q.adds)) (λ w. Memᴰ.head refl) s)
 
       from : (o : Outcome) → Permitted seen q n o → Mem o (listed G page q (words n) work)
       from o p = by (seen.steps n p.walk) refl p.gives
@@ -294,7 +295,7 @@ module _ (seen : View) (G page : ℕ) (words : ℕ → List ℕ) (t : Told table
           h : Kept seen n p.walk
           h = (held_is_kept seen t.law n p.walk).0 p.held
 
-          up : {s : Step} → seen.steps n p.walk ≡ s → (s ≡ Complete → ⊥) → p.walk.level ≡ 0 → ⊥
+          up : {s : Step} → seen.steps n p.walk ≡ s → (s ≡ (Err Complete) → ⊥) → p.walk.level ≡ 0 → ⊥
           up e d z = d (sym e ∙ t.law.done n p.walk z)
 
           one : {x : Outcome} → Mem o (x ∷ []) → o ≡ x
@@ -311,11 +312,11 @@ module _ (seen : View) (G page : ℕ) (words : ℕ → List ℕ) (t : Told table
               rw e (Memᴰ.append_left _ (ifs_new (absents G page q (words n) work) (lacks G q work) (Fault (1 + q.adds)) (to_lacks p.walk h z g)))
 
           by : (s : Step) → seen.steps n p.walk ≡ s → Mem o (given q p.walk s) → Mem o (listed G page q (words n) work)
-          by (On x) e m = absurd (Memᴰ.not-nil m)
-          by Absent e m =
+          by (Ok x) e m = absurd (Memᴰ.not-nil m)
+          by (Err Absent) e m =
               rw (one m) (Memᴰ.append_left _ (Memᴰ.append_left _ (ifs_new (found G page q (words n) work G) (stops G page (words n) work 0) (Fault (0 + q.adds))
               (to_stops p.walk h 0 (up e (λ d. let z : ◌≡◌ {A = ℕ} 0 1 = cc in omega arith)) (ap (λ (s : Step). stop_code s) e)))))
-          by Beyond e m =
+          by (Err Beyond) e m =
               rw (one m) (ifs_new (lackings G page q (words n) work) (stops G page (words n) work 9) (Fault (9 + q.adds))
               (to_stops p.walk h 9 (up e (λ d. let z : ◌≡◌ {A = ℕ} 0 1 = cc in omega arith)) (ap (λ (s : Step). stop_code s) e)))
-          by Complete e m = judged (enough q p.walk.rights) refl (t.law.undone n p.walk e) (one m)
+          by (Err Complete) e m = judged (enough q p.walk.rights) refl (t.law.undone n p.walk e) (one m)

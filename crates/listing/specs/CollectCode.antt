@@ -1,9 +1,9 @@
 -- How the code collects the outcomes from the work bytes, in the form of its code.
-use Rattle.std.specs.Prelude.{Bool, cond, not, ◌&&◌, ◌||◌, List, ℕ, ◌+◌, ◌*◌, ◌/◌, ◌%◌, ◌≤◌, ◌<◌, eqb, length, get_or, set}
+use Rattle.std.specs.Prelude.{Bool, true, false, cond, not, ◌&&◌, ◌||◌, List, ℕ, ◌+◌, ◌*◌, ◌/◌, ◌%◌, ◌≤◌, ◌<◌, eqb, length, get_or, set, Ok, Err, Option, Some, None}
+use Rattle.paging.specs.Walk.{Step}
 use Rattle.paging.specs.declared.Walk.{Walk}
 use Rattle.paging.specs.declared.Request.{Request}
-use Rattle.paging.specs.declared.Step.{Step}
-use Rattle.paging.specs.declared.Step.TheVariants.{On, Absent, Beyond, Complete}
+use Rattle.paging.specs.declared.Stop.TheVariants.{Absent, Beyond, Complete}
 use Rattle.paging.specs.Numbers.{some, each}
 use Rattle.paging.specs.Request.{enough}
 use Rattle.listing.specs.declared.Faults.{Faults}
@@ -47,10 +47,10 @@ pushed yes-it-is x o = cond yes-it-is (written x o) o
 
 -- the base code of the fault that a step gives; 1 if it gives none
 abbrev pub stop_code : Step → ℕ
-stop_code (On w) = 1
-stop_code Absent = 0
-stop_code Beyond = 9
-stop_code Complete = 1
+stop_code (Ok w) = 1
+stop_code (Err Absent) = 0
+stop_code (Err Beyond) = 9
+stop_code (Err Complete) = 1
 
 -- the walk of a byte
 abbrev pub walk_at : ℕ → ℕ → Walk

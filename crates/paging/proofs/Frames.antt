@@ -1,4 +1,5 @@
 -- Between guest and host: the search for a guest frame says the same of what is left, and finds what the map sent.
+use Rattle.std.specs.Prelude.{Some, None}
 use mathlib.Core.Path.{◌≡◌, refl, sym, ◌∙◌, ap}
 use mathlib.Core.Bool.{true, not, ◌&&◌}
 use mathlib.Core.List.{List}
@@ -12,13 +13,12 @@ use lib.Seq.{drop-cons, length-take-le, get_or-take}
 use borrow.Author.Tests.{eq-eqb, ne_eqb, eqb-false, not-true}
 use Rattle.paging.specs.declared.Guest.{Guest}
 use Rattle.paging.specs.declared.Host.{Host}
-use Rattle.paging.specs.declared.Origin.TheVariants.{Of, Nowhere}
 use Rattle.paging.specs.Frame.{guest, host_of, origin_from, origin_of, is_new, Distinct, map_fits}
 use Rattle.paging.proofs.Tests.{both}
 use Rattle.paging.proofs.Numbers.{all-at, all_same}
 
 module _ (map : List ℕ) (h : Host) where
-  pub origin_here : (i : ℕ) → i < length map → get_or map i 0 ≡ h.0 → origin_from i (drop i map) h ≡ Of (guest i)
+  pub origin_here : (i : ℕ) → i < length map → get_or map i 0 ≡ h.0 → origin_from i (drop i map) h ≡ Some (guest i)
   unfolding origin_from
   origin_here i lt e = rw (drop-cons map i 0 lt) (simp (eq-eqb (get_or map i 0) h.0 e))
 
@@ -26,7 +26,7 @@ module _ (map : List ℕ) (h : Host) where
   unfolding origin_from
   origin_next i lt ne = rw (drop-cons map i 0 lt, add-one i) (simp (ne_eqb (get_or map i 0) h.0 ne))
 
-  pub origin_end : (i : ℕ) → length map ≤ i → origin_from i (drop i map) h ≡ Nowhere
+  pub origin_end : (i : ℕ) → length map ≤ i → origin_from i (drop i map) h ≡ None
   unfolding origin_from
   origin_end i le = rw (drop_of_length-le map le)
 
@@ -57,7 +57,7 @@ fits_distinct limit map h = distinct map (λ i j lt hj. new_differs map j (get_o
     new k lt = (both (ltb (get_or map k 0) limit) _ (all-at (λ k. ltb (get_or map k 0) limit && is_new map k (get_or map k 0)) (length map) h k lt)).1
 
 -- THE SEARCH FINDS THE FRAME THAT THE MAP SENT
-pub origin_host : (map : List ℕ) → Distinct map → (g : Guest) → g.0 < length map → origin_of map (host_of map g) ≡ Of g
+pub origin_host : (map : List ℕ) → Distinct map → (g : Guest) → g.0 < length map → origin_of map (host_of map g) ≡ Some g
 origin_host map one g lt = sym (passed g.0 (omega arith)) ∙ origin_here map (host_of map g) g.0 lt refl
   where
     passed : (i : ℕ) → i ≤ g.0 → origin_from i (drop i map) (host_of map g) ≡ origin_of map (host_of map g)

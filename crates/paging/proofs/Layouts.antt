@@ -1,4 +1,5 @@
 -- The 64-bit layout is sound, and what follows of every sound layout.
+use Rattle.std.specs.Prelude.{Ok, Err}
 use mathlib.Core.Path.{◌≡◌, refl, sym, ◌∙◌, ap, ap₂}
 use mathlib.Core.Bool.{Bool, true, cond, not}
 use mathlib.Core.List.{List}
@@ -13,11 +14,10 @@ use lib.Pow.{pow_pos, shr-shr}
 use lib.ListN.{length, get_or, set, length-set, get_or-eq_default}
 use lib.Seq.{get_or-set_same, get_or-set_other, set_out}
 use Rattle.paging.specs.declared.Walk.{Walk}
-use Rattle.paging.specs.declared.Step.{Step}
-use Rattle.paging.specs.declared.Step.TheVariants.{On, Absent, Beyond, Complete}
+use Rattle.paging.specs.declared.Stop.TheVariants.{Absent, Beyond, Complete}
 use Rattle.paging.specs.Frame.{guest}
 use Rattle.paging.specs.Layout.{Layout, tables64, frame_words, bit, get, put, frame_of, rights_of, compose, is_present, with_bit}
-use Rattle.paging.specs.Walk.{meet, with_rights, down_to, step}
+use Rattle.paging.specs.Walk.{Step, meet, with_rights, down_to, step}
 use Rattle.paging.proofs.Finite.{at-below}
 use Rattle.paging.specs.Sound.{Alike, Flag, Sound}
 
@@ -89,8 +89,8 @@ tables64_sound = record {
 -- a step reads P, the frame and the rights, and nothing else
 abbrev by_fields : ℕ → Walk → Bool → ℕ → ℕ → Step
 by_fields G w here f r =
-    cond (eqb w.level 0) Complete
-    (cond (not here) Absent (cond (ltb f G) (On (down_to (with_rights w (meet w.rights r)) (guest f))) Beyond))
+    cond (eqb w.level 0) (Err Complete)
+    (cond (not here) (Err Absent) (cond (ltb f G) (Ok (down_to (with_rights w (meet w.rights r)) (guest f))) (Err Beyond)))
 
 module _ (Y : Layout) (ok : Sound Y) where
   -- entries of different frames lie in different words, and all in the words of their frame

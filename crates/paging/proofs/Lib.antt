@@ -3,7 +3,7 @@ pub mod Tests
 pub mod Numbers
 pub mod Loops
 pub mod Counts
-pub mod Copies
+pub mod Chains
 pub mod Finite
 pub mod Bits
 pub mod Rights

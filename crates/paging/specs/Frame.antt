@@ -1,10 +1,8 @@
 -- "A guest frame number and a host frame number are two separate counts, and neither may stand where the other is due."
 -- Guest and Host are two types; only the map, here, turns one into the other.
-use Rattle.std.specs.Prelude.{◌≡◌, Bool, cond, not, ◌&&◌, List, [], ◌∷◌, ℕ, ◌+◌, ◌^◌, ◌<◌, ◌*◌, ◌%◌, eqb, ltb, length, get_or}
+use Rattle.std.specs.Prelude.{◌≡◌, Bool, cond, not, ◌&&◌, List, [], ◌∷◌, ℕ, ◌+◌, ◌^◌, ◌<◌, ◌*◌, ◌%◌, eqb, ltb, length, get_or, Option, Some, None}
 use Rattle.paging.specs.declared.Guest.{Guest}
 use Rattle.paging.specs.declared.Host.{Host}
-use Rattle.paging.specs.declared.Origin.{Origin}
-use Rattle.paging.specs.declared.Origin.TheVariants.{Of, Nowhere}
 use Rattle.paging.specs.Numbers.{all}
 
 abbrev pub guest : ℕ → Guest
@@ -22,11 +20,11 @@ abbrev pub host_address : Host → ℕ → ℕ
 host_address h a = h.0 * 2 ^ 12 + a % 2 ^ 12
 
 -- the first guest frame from k on that is mapped to h; where no map frame repeats there is no other
-unfoldable pub origin_from : ℕ → List ℕ → Host → Origin
-origin_from k [] h = Nowhere
-origin_from k (x ∷ xs) h = cond (eqb x h.0) (Of (guest k)) (origin_from (k + 1) xs h)
+unfoldable pub origin_from : ℕ → List ℕ → Host → Option Guest
+origin_from k [] h = None
+origin_from k (x ∷ xs) h = cond (eqb x h.0) (Some (guest k)) (origin_from (k + 1) xs h)
 
-abbrev pub origin_of : List ℕ → Host → Origin
+abbrev pub origin_of : List ℕ → Host → Option Guest
 origin_of map h = origin_from 0 map h
 
 -- none of the first n frames of a map is f

@@ -1,11 +1,15 @@
 -- "Entries and requests", second paragraph: a walk, and what it does at an entry.
-use Rattle.std.specs.Prelude.{cond, not, ℕ, ◌+◌, ◌-◌, ◌*◌, min, eqb, ltb}
+use Rattle.std.specs.Prelude.{cond, not, ℕ, ◌+◌, ◌-◌, ◌*◌, min, eqb, ltb, Result, Ok, Err}
 use Rattle.paging.specs.declared.Guest.{Guest}
 use Rattle.paging.specs.declared.Walk.{Walk}
-use Rattle.paging.specs.declared.Step.{Step}
-use Rattle.paging.specs.declared.Step.TheVariants.{On, Absent, Beyond, Complete}
+use Rattle.paging.specs.declared.Stop.{Stop}
+use Rattle.paging.specs.declared.Stop.TheVariants.{Absent, Beyond, Complete}
 use Rattle.paging.specs.Frame.{guest}
 use Rattle.paging.specs.Layout.{Layout, bit, frame_of, rights_of, is_present}
+
+-- what a walk does at an entry: it goes on, or it stops
+abbrev pub Step : Type 0
+Step = Result Walk Stop
 
 -- the rights, W + 2 U + 4 X, that two numbers share
 unfoldable pub meet : ℕ → ℕ → ℕ
@@ -31,6 +35,6 @@ module _ (Y : Layout) where
   -- the walk extends." Level 0 is a completed walk: it has no entry left to read.
   unfoldable pub step : ℕ → Walk → ℕ → Step
   step G w e =
-      cond (eqb w.level 0) Complete
-      (cond (not (is_present e)) Absent
-      (cond (ltb (frame_of Y e) G) (On (down_to (narrowed w e) (guest (frame_of Y e)))) Beyond))
+      cond (eqb w.level 0) (Err Complete)
+      (cond (not (is_present e)) (Err Absent)
+      (cond (ltb (frame_of Y e) G) (Ok (down_to (narrowed w e) (guest (frame_of Y e)))) (Err Beyond)))

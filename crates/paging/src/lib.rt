@@ -2,7 +2,8 @@
 // Every shift and mask of the project stands here. Callers speak of indices, frames, rights and steps.
 #![tactic(auto)]
 
-ghost use Rattle.std.specs.Prelude.{◌≡◌, ◌<◌, ◌≤◌, ◌^◌, length, replicate};
+ghost use Rattle.std.specs.Prelude.{◌≡◌, eqb, ltb, ◌<◌, ◌≤◌, ◌^◌, length, replicate};
+ghost use Rattle.std.specs.List.{list_all, position};
 ghost use Rattle.paging.specs.Numbers.{is_between};
 ghost use Rattle.paging.specs.NotesCode.{noted_at, Noted};
 ghost use Rattle.paging.specs.Frame.{host_of, origin_of, is_new, map_fits, cr3s_fit, host_address};
@@ -135,7 +136,7 @@ pub fn entry_at(words: &[u64], f: u64, i: usize) -> u64
     ensures { result ≡ get tables64 words.now f i }
 {
     let at = FRAME_WORDS * (f as usize) + i;
-    if at < words.len() { words[at] } else { 0 }
+    words.get(at).copied().unwrap_or(0)
 }
 
 pub fn write_entry(words: &mut [u64], f: u64, i: usize, e: u64)
@@ -151,20 +152,14 @@ pub fn write_entry(words: &mut [u64], f: u64, i: usize, e: u64)
 pub fn zero(buffer: &mut [u64])
     ensures { buffer.new ≡ replicate (length buffer.old) 0 }
 {
-    let mut i = 0;
-    while i < buffer.len() {
-        buffer[i] = 0;
-        i += 1;
-    }
+    buffer.fill(0);
 }
 
 pub fn copy(words: &mut [u64], start: &[u64])
     requires { length words.old ≡ length start.now }
     ensures { words.new ≡ start.now }
 {
-    for i in 0..start.len() {
-        words[i] = start[i];
-    }
+    words.copy_from_slice(start);
 }
 
 // ---- frames
@@ -175,22 +170,11 @@ pub struct Guest(pub u64);
 #[derive(Clone, Copy)]
 pub struct Host(pub u64);
 
-// The guest frame behind a host frame, if there is one.
-#[derive(Clone, Copy)]
-pub enum Origin {
-    Of(Guest),
-    Nowhere,
-}
-
 // Frames past the end of the map have host frame 0.
 pub fn host_of(map: &[u64], g: Guest) -> Host
     ensures { result ≡ host_of map.now g }
 {
-    if g.0 < map.len() as u64 {
-        Host(map[g.0 as usize])
-    } else {
-        Host(0)
-    }
+    Host(map.get(g.0 as usize).copied().unwrap_or(0))
 }
 
 // "host frame × 4096 + address mod 4096"
@@ -201,17 +185,17 @@ pub fn host_address(h: Host, a: u64) -> u64
     h.0 * 4096 + a % 4096
 }
 
-pub fn origin_of(map: &[u64], h: Host) -> Origin
+fn place_of(map: &[u64], f: u64) -> Option<usize>
+    ensures { result ≡ position (λ x. eqb x f) map.now }
+{
+    map.iter().position(|&x| x == f)
+}
+
+// The guest frame behind a host frame, if there is one.
+pub fn origin_of(map: &[u64], h: Host) -> Option<Guest>
     ensures { result ≡ origin_of map.now h }
 {
-    let mut i = 0;
-    while i < map.len() {
-        if map[i] == h.0 {
-            return Origin::Of(Guest(i as u64));
-        }
-        i += 1;
-    }
-    Origin::Nowhere
+    place_of(map, h.0).map(|i| Guest(i as u64))
 }
 
 // ---- numbers that fit
@@ -219,24 +203,14 @@ pub fn origin_of(map: &[u64], h: Host) -> Origin
 pub fn is_between(lo: u64, hi: u64, x: u64) -> bool
     ensures { result ≡ is_between lo hi x }
 {
-    if lo > x {
-        return false;
-    }
-    x <= hi
+    (lo..=hi).contains(&x)
 }
 
 pub fn is_new(map: &[u64], n: usize, f: u64) -> bool
     requires { n ≤ length map.now }
     ensures { result ≡ is_new map.now n f }
 {
-    let mut j = 0;
-    while j < n {
-        if map[j] == f {
-            return false;
-        }
-        j += 1;
-    }
-    true
+    !map[..n].contains(&f)
 }
 
 pub fn noted_at(f: u64) -> usize
@@ -246,35 +220,11 @@ pub fn noted_at(f: u64) -> usize
 }
 
 // Only a frame whose place is noted already need be compared with those before it.
-fn is_new_by(map: &[u64], notes: &[u8], n: usize, f: u64) -> bool
+fn is_new_by(map: &[u64], notes: &[u8; 4096], n: usize, f: u64) -> bool
     requires { (n ≤ length map.now) × Noted map.now notes.now n }
     ensures { result ≡ is_new map.now n f }
 {
-    let k = noted_at(f);
-    if notes[k] != 1 {
-        return true;
-    }
-    is_new(map, n, f)
-}
-
-fn map_fits_by(map: &[u64], notes: &mut [u8]) -> bool
-    requires { length notes.old ≡ 4096 }
-    ensures { result ≡ map_fits (2 ^ 40) map.now }
-{
-    let mut i = 0;
-    while i < map.len() {
-        let f = map[i];
-        if f >= 0x100_0000_0000 {
-            return false;
-        }
-        if !is_new_by(map, notes, i, f) {
-            return false;
-        }
-        let k = noted_at(f);
-        notes[k] = 1;
-        i += 1;
-    }
-    true
+    notes[noted_at(f)] != 1 || is_new(map, n, f)
 }
 
 // No frame repeats, and none is 2^40 or more. Notes make the test of most maps linear; what they held before does not matter.
@@ -282,20 +232,25 @@ pub fn map_fits(map: &[u64]) -> bool
     ensures { result ≡ map_fits (2 ^ 40) map.now }
 {
     let mut notes = [0u8; 4096];
-    map_fits_by(map, &mut notes)
+    for (i, &f) in map.iter().enumerate() {
+        if f >= 0x100_0000_0000 || !is_new_by(map, &notes, i, f) {
+            return false;
+        }
+        notes[noted_at(f)] = 1;
+    }
+    true
+}
+
+fn are_below(xs: &[u64], limit: u64) -> bool
+    ensures { result ≡ list_all (λ x. ltb x limit) xs.now }
+{
+    xs.iter().all(|&x| x < limit)
 }
 
 pub fn cr3s_fit(frames: u64, cr3s: &[u64]) -> bool
     ensures { result ≡ cr3s_fit frames cr3s.now }
 {
-    let mut p = 0;
-    while p < cr3s.len() {
-        if cr3s[p] >= frames {
-            return false;
-        }
-        p += 1;
-    }
-    true
+    are_below(cr3s, frames)
 }
 
 // Where a walk stands: the level of its next entry (0: it is complete), the frame, the rights it has left.
@@ -306,14 +261,16 @@ pub struct Walk {
     pub rights: u64,
 }
 
-// What a walk does at an entry: it goes on; P is 0; the frame is none of the guest's; it was complete before.
-#[derive(Clone, Copy)]
-pub enum Step {
-    On(Walk),
+// Why a walk goes no further: P is 0; the frame is none of the guest's; it was complete before.
+#[derive(Clone, Copy, Debug, PartialEq, Eq)]
+pub enum Stop {
     Absent,
     Beyond,
     Complete,
 }
+
+// What a walk does at an entry: it goes on, or it stops.
+pub type Step = Result<Walk, Stop>;
 
 impl Walk {
     pub fn start(cr3: Guest) -> Walk
@@ -330,11 +287,9 @@ impl Walk {
         requires { self.rights < 8 }
         ensures { result ≡ narrowed tables64 self e }
     {
-        let f = self.frame;
         Walk {
-            level: self.level,
-            frame: f,
-            rights: self.rights & rights_of(e),
+            rights: shared_rights(self.rights, rights_of(e)),
+            ..self
         }
     }
 
@@ -345,7 +300,7 @@ impl Walk {
         Walk {
             level: self.level - 1,
             frame: f,
-            rights: self.rights,
+            ..self
         }
     }
 
@@ -353,19 +308,16 @@ impl Walk {
         requires { self.rights < 8 }
         ensures { result ≡ step tables64 frames self e }
     {
-        let level = self.level;
-        if level == 0 {
-            return Step::Complete;
-        }
-        let here = present(e);
         let f = frame_of(e);
-        if !here {
-            return Step::Absent;
+        if self.level == 0 {
+            return Err(Stop::Complete);
+        }
+        if !present(e) {
+            return Err(Stop::Absent);
         }
         if f >= frames {
-            return Step::Beyond;
+            return Err(Stop::Beyond);
         }
-        let narrower = self.narrow(e);
-        Step::On(narrower.down_to(Guest(f)))
+        Ok(self.narrow(e).down_to(Guest(f)))
     }
 }

@@ -1,11 +1,11 @@
 -- Extend carries the invariant: a slot that is extended from level 1 holds what its page's path holds.
+use Rattle.std.specs.Prelude.{Some}
 use mathlib.Core.Path.{◌≡◌, refl, sym, ap, subst, ◌∙◌}
 use mathlib.Core.List.{List}
 use mathlib.Core.Bool.{true, false}
 use Prim.Native.Nat.{ℕ, suc, ◌-◌, ◌^◌, ◌<◌}
 use native.Mathlib.Omega.{arith}
 use Rattle.paging.specs.declared.Guest.{Guest}
-use Rattle.paging.specs.declared.Origin.TheVariants.{Of}
 use Rattle.paging.specs.Frame.{guest, host, host_of, origin_of}
 use Rattle.paging.specs.Layout.{frame_of, rights_of, is_present}
 use Rattle.paging.specs.Walk.{meet}
@@ -93,11 +93,11 @@ module _ (F : Fresh) (es : List Event) (k : ℕ) (s : State) (h : Holds F es k s
     frame_is : level ≡ 1 → (b : Behind F es p v k (frame_of M.tables (entry_at 1)) (rights_at 1)) → guest m.place ≡ b.frame
     frame_is last b =
         let o = place_complete M room map maps p own s h.right i low level m.place last m.at in
-        let q : origin_of map (host (frame_of M.tables (entry_at 1))) ≡ Of (guest m.place) =
-        subst (λ (l : ℕ). origin_of map (host (frame_of M.tables (entry_at l))) ≡ Of (guest m.place)) last o in
-        let d : origin_of map (host_of map b.frame) ≡ Of b.frame =
+        let q : origin_of map (host (frame_of M.tables (entry_at 1))) ≡ Some (guest m.place) =
+        subst (λ (l : ℕ). origin_of map (host (frame_of M.tables (entry_at l))) ≡ Some (guest m.place)) last o in
+        let d : origin_of map (host_of map b.frame) ≡ Some b.frame =
         origin_host map (fits_distinct (2 ^ M.tables.frame_bits) map (accepted_map M map s e ok)) b.frame (rw maps.guests b.inside) in
-        let x : Of (guest m.place) ≡ Of b.frame = sym q ∙ ap (λ (f : ℕ). origin_of map (host f)) b.mapped ∙ d in
+        let x : Some (guest m.place) ≡ Some b.frame = sym q ∙ ap (λ (f : ℕ). origin_of map (host f)) b.mapped ∙ d in
         cc
 
     abbrev rights : ℕ

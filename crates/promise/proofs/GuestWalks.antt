@@ -1,5 +1,6 @@
 -- The machine's walk of the guest's tables, on words that agree with the rules' but for A and D, passes held walks only:
 -- its end is a held walk, or a held walk faults as it does.
+use Rattle.std.specs.Prelude.{Ok, Err}
 use mathlib.Core.Path.{◌≡◌, refl, sym, ◌∙◌}
 use mathlib.Core.List.{List}
 use mathlib.Core.Logic.{inl}
@@ -7,10 +8,9 @@ use Prim.Native.Nat.{ℕ, zero, suc}
 use native.Mathlib.Omega.{arith}
 use Rattle.paging.specs.declared.Guest.{Guest}
 use Rattle.paging.specs.declared.Walk.{Walk}
-use Rattle.paging.specs.declared.Step.{Step}
-use Rattle.paging.specs.declared.Step.TheVariants.{On, Absent, Beyond, Complete}
+use Rattle.paging.specs.declared.Stop.TheVariants.{Absent, Beyond, Complete}
 use Rattle.paging.specs.Layout.{Layout, get, put, index, with_a}
-use Rattle.paging.specs.Walk.{step}
+use Rattle.paging.specs.Walk.{Step, step}
 use Rattle.paging.specs.Sound.{Sound}
 use Rattle.paging.proofs.Indices.{index_small}
 use Rattle.rules.specs.View.{View}
@@ -25,8 +25,8 @@ module _ (Y : Layout) (sound : Sound Y) (seen : View) (G page k : ℕ) (rules : 
     (reads : (w : Walk) → seen.steps k w ≡ step Y G w (get Y rules w.frame.0 (index Y page w.level))) where
   pub data Ends : Walked → Type 0 where
     whole : {last : Guest} {w : Walk} → Kept seen k w → w.level ≡ 0 → Ends (Whole last w)
-    absent : {w : Walk} {c : ℕ} → c ≡ 0 → Kept seen k w → seen.steps k w ≡ Absent → Ends (Fault c)
-    beyond : {w : Walk} {c : ℕ} → c ≡ 9 → Kept seen k w → seen.steps k w ≡ Beyond → Ends (Fault c)
+    absent : {w : Walk} {c : ℕ} → c ≡ 0 → Kept seen k w → seen.steps k w ≡ (Err Absent) → Ends (Fault c)
+    beyond : {w : Walk} {c : ℕ} → c ≡ 9 → Kept seen k w → seen.steps k w ≡ (Err Beyond) → Ends (Fault c)
 
   pub record Walks (t : GuestWalk) : Type 0 where
     pub words : Same Y t.words rules
@@ -52,9 +52,9 @@ module _ (Y : Layout) (sound : Sound Y) (seen : View) (G page k : ℕ) (rules : 
       same q = reads w ∙ sym (same_step Y sound s G w w.frame.0 i (index_small Y page w.level)) ∙ q
 
       by : (r : Step) → step Y G w e ≡ r
-          → ((w' : Walk) → step Y G w e ≡ On w' → Walks (walk_from Y G page n (put Y words w.frame.0 i (with_a e)) w.frame w'))
+          → ((w' : Walk) → step Y G w e ≡ Ok w' → Walks (walk_from Y G page n (put Y words w.frame.0 i (with_a e)) w.frame w'))
           → Walks (by_step words last w (λ w'. walk_from Y G page n (put Y words w.frame.0 i (with_a e)) w.frame w') r)
-      by (On w') q ih = ih w' q
-      by Absent q ih = record { words = s; ended = absent refl h (same q) }
-      by Beyond q ih = record { words = s; ended = beyond refl h (same q) }
-      by Complete q ih = record { words = s; ended = whole h (law.undone k w (same q)) }
+      by (Ok w') q ih = ih w' q
+      by (Err Absent) q ih = record { words = s; ended = absent refl h (same q) }
+      by (Err Beyond) q ih = record { words = s; ended = beyond refl h (same q) }
+      by (Err Complete) q ih = record { words = s; ended = whole h (law.undone k w (same q)) }

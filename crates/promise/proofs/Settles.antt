@@ -1,13 +1,14 @@
 -- From held walks to outcomes: an address that a held walk backs is permitted, and so are the faults of held walks.
+use Rattle.std.specs.Prelude.{Err}
 use mathlib.Core.Path.{◌≡◌, refl}
 use mathlib.Core.Bool.{true, false}
 use mathlib.Core.List.Memᴰ
 use Prim.Native.Nat.{ℕ, ◌+◌, ◌<◌}
+use Rattle.paging.specs.Walk.{Step}
 use Rattle.paging.specs.declared.Guest.{Guest}
 use Rattle.paging.specs.declared.Walk.{Walk}
 use Rattle.paging.specs.declared.Request.{Request}
-use Rattle.paging.specs.declared.Step.{Step}
-use Rattle.paging.specs.declared.Step.TheVariants.{Absent, Beyond, Complete}
+use Rattle.paging.specs.declared.Stop.TheVariants.{Absent, Beyond, Complete}
 use Rattle.paging.specs.Request.{enough}
 use Rattle.rules.specs.declared.Outcome.{Outcome}
 use Rattle.rules.specs.declared.Outcome.TheVariants.{Address, Fault}
@@ -34,15 +35,15 @@ module _ (seen : View) {L G : ℕ} (law : Coherent seen L G) (q : Request) (k : 
   pub address_permitted : (g : Guest) (rights : ℕ) → q.needs < 8 → Backed seen k g rights → enough q rights ≡ true → Permitted seen q k (Address g)
   address_permitted g rights small b e =
       let good : enough q b.walk.rights ≡ true = b.covers q small e in
-      permit b.walk Complete (Address g) b.kept (law.done k b.walk b.complete)
+      permit b.walk (Err Complete) (Address g) b.kept (law.done k b.walk b.complete)
       (rw (good, b.frame) (Memᴰ.head refl))
 
   -- the faults
-  pub absent_permitted : (w : Walk) → Kept seen k w → seen.steps k w ≡ Absent → Permitted seen q k (Fault (0 + q.adds))
-  absent_permitted w h e = permit w Absent (Fault (0 + q.adds)) h e (Memᴰ.head refl)
+  pub absent_permitted : (w : Walk) → Kept seen k w → seen.steps k w ≡ (Err Absent) → Permitted seen q k (Fault (0 + q.adds))
+  absent_permitted w h e = permit w (Err Absent) (Fault (0 + q.adds)) h e (Memᴰ.head refl)
 
-  pub beyond_permitted : (w : Walk) → Kept seen k w → seen.steps k w ≡ Beyond → Permitted seen q k (Fault (9 + q.adds))
-  beyond_permitted w h e = permit w Beyond (Fault (9 + q.adds)) h e (Memᴰ.head refl)
+  pub beyond_permitted : (w : Walk) → Kept seen k w → seen.steps k w ≡ (Err Beyond) → Permitted seen q k (Fault (9 + q.adds))
+  beyond_permitted w h e = permit w (Err Beyond) (Fault (9 + q.adds)) h e (Memᴰ.head refl)
 
   pub lacking_permitted : (w : Walk) → Kept seen k w → w.level ≡ 0 → enough q w.rights ≡ false → Permitted seen q k (Fault (1 + q.adds))
-  lacking_permitted w h z bad = permit w Complete (Fault (1 + q.adds)) h (law.done k w z) (rw bad (Memᴰ.head refl))
+  lacking_permitted w h z bad = permit w (Err Complete) (Fault (1 + q.adds)) h (law.done k w z) (rw bad (Memᴰ.head refl))

@@ -1,4 +1,5 @@
 -- A right list has at most G + 3 members: each has a rank below G + 3, and the ranks rise with the list.
+use Rattle.std.specs.Prelude.{Ok, Err}
 use mathlib.Core.Path.{◌≡◌, refl}
 use mathlib.Core.Logic.{◌⊎◌, inl, inr}
 use mathlib.Core.Bool.{Bool, true, false, cond}
@@ -7,11 +8,11 @@ use mathlib.Core.List.{List, [], ◌∷◌}
 use Prim.Native.Nat.{ℕ, suc, ◌+◌, ◌≤◌, ◌<◌}
 use native.Mathlib.Omega.{arith}
 use lib.ListN.{length}
+use Rattle.paging.specs.Walk.{Step}
 use Rattle.paging.specs.declared.Guest.{Guest}
 use Rattle.paging.specs.declared.Walk.{Walk}
 use Rattle.paging.specs.declared.Request.{Request}
-use Rattle.paging.specs.declared.Step.{Step}
-use Rattle.paging.specs.declared.Step.TheVariants.{On, Absent, Beyond, Complete}
+use Rattle.paging.specs.declared.Stop.TheVariants.{Absent, Beyond, Complete}
 use Rattle.paging.specs.Request.{enough}
 use Rattle.rules.specs.declared.Outcome.{Outcome}
 use Rattle.rules.specs.declared.Outcome.TheVariants.{Address, Fault}
@@ -70,18 +71,18 @@ module _ {G a : ℕ} where
 module _ (seen : View) (q : Request) {L G : ℕ} (law : Coherent seen L G) (root : Rooted seen G) where
   -- what a walk below G gives has a rank
   ranked : (w : Walk) → w.frame.0 < G → (s : Step) (o : Outcome) → Mem o (given q w s) → (r : ℕ) × Rank G q.adds o r
-  ranked w h (On w') o m = absurd (Memᴰ.not-nil m)
-  ranked w h Absent o m = one (Memᴰ.cases_cons m)
+  ranked w h (Ok w') o m = absurd (Memᴰ.not-nil m)
+  ranked w h (Err Absent) o m = one (Memᴰ.cases_cons m)
     where
       one : (o ≡ Fault (0 + q.adds)) ⊎ Mem o [] → (r : ℕ) × Rank G q.adds o r
       one (inl e) = rw e (G, absent refl refl)
       one (inr k) = absurd (Memᴰ.not-nil k)
-  ranked w h Beyond o m = one (Memᴰ.cases_cons m)
+  ranked w h (Err Beyond) o m = one (Memᴰ.cases_cons m)
     where
       one : (o ≡ Fault (9 + q.adds)) ⊎ Mem o [] → (r : ℕ) × Rank G q.adds o r
       one (inl e) = rw e (G + 2, beyond refl refl)
       one (inr k) = absurd (Memᴰ.not-nil k)
-  ranked w h Complete o m = one (enough q w.rights) (Memᴰ.cases_cons m)
+  ranked w h (Err Complete) o m = one (enough q w.rights) (Memᴰ.cases_cons m)
     where
       one : (b : Bool) → (o ≡ cond b (Address w.frame) (Fault (1 + q.adds))) ⊎ Mem o [] → (r : ℕ) × Rank G q.adds o r
       one true (inl e) = rw e (w.frame.0, frame h refl)

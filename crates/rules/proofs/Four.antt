@@ -1,11 +1,11 @@
 -- The sentences with their moments written out say the same as the rule: of complete walks, and of partial ones at each level.
+use Rattle.std.specs.Prelude.{Ok}
 use mathlib.Core.Path.{◌≡◌, refl, sym, ◌∙◌, ap}
 use mathlib.Core.Logic.{◌↔◌}
 use Prim.Native.Nat.{ℕ, zero, suc, ◌≤◌, ◌<◌}
 use native.Mathlib.Omega.{arith}
 use native.Mathlib.Decide.{le_ind}
 use Rattle.paging.specs.declared.Walk.{Walk}
-use Rattle.paging.specs.declared.Step.TheVariants.{On}
 use Rattle.rules.specs.View.{View, Quiet}
 use Rattle.rules.specs.Held.{Reads, begun, read, Held, complete, partial, Four, FourPartial, level₄, level₃, level₂, level₁}
 use Rattle.rules.specs.Coherent.{Coherent}
@@ -22,7 +22,7 @@ module _ (seen : View) {L G : ℕ} (law : Coherent seen L G) where
     w : Walk
     before : t ≤ u
     reads : Reads seen s t w
-    step : seen.steps u w ≡ On w'
+    step : seen.steps u w ≡ Ok w'
     above : w.level ≡ suc w'.level
 
   last : {s u : ℕ} {w : Walk} → Reads seen s u w → w.level < L → Last s u w
@@ -39,13 +39,13 @@ module _ (seen : View) {L G : ℕ} (law : Coherent seen L G) where
       le_ind (λ k. k ≤ t → seen.begins k ≡ seen.begins s) (λ x. refl) (λ k lo ih hi. law.root_kept k (q k lo hi) ∙ ih (omega arith)) t le (omega arith)
 
   -- the first entry that a walk reads: CR3 is still what it was where the walk began
-  opening : {s u : ℕ} {w : Walk} → Reads seen s u w → suc w.level ≡ L → Quiet seen.ends_partial s u → seen.steps u (seen.begins u) ≡ On w
+  opening : {s u : ℕ} {w : Walk} → Reads seen s u w → suc w.level ≡ L → Quiet seen.ends_partial s u → seen.steps u (seen.begins u) ≡ Ok w
   opening {s} {u} {w} r e q =
       let x = last r (omega arith) in
       let (a, is) = first x.reads (omega (arith, x.above)) in
       ap (seen.steps u) (root_same s u (omega (arith, x.before)) q ∙ sym is) ∙ x.step
 
-  opened : {u : ℕ} {w : Walk} → seen.steps u (seen.begins u) ≡ On w → Reads seen u u w
+  opened : {u : ℕ} {w : Walk} → seen.steps u (seen.begins u) ≡ Ok w → Reads seen u u w
   opened {u} {w} e = read {t = u} {u = u} (begun refl refl) (omega arith) e
 
   -- A COMPLETED WALK IS HELD IF AND ONLY IF THERE ARE FOUR SUCH MOMENTS
@@ -90,7 +90,7 @@ module _ (seen : View) {L G : ℕ} (law : Coherent seen L G) where
   pub four_partial : L ≡ 4 → (n : ℕ) (w : Walk) → FourPartial seen n w ↔ ((0 < w.level) × Held seen n w)
   four_partial e n w = (to, (λ h. from h.0 h.1))
     where
-      lower : (t : ℕ) (x y : Walk) → seen.steps t x ≡ On y → x.level ≡ suc y.level
+      lower : (t : ℕ) (x y : Walk) → seen.steps t x ≡ Ok y → x.level ≡ suc y.level
       lower t x y r = (law.down t x y r).level
 
       to : FourPartial seen n w → (0 < w.level) × Held seen n w

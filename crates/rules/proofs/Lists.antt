@@ -1,4 +1,5 @@
 -- The right list of a question: there is one, it is computed from the held walks, and it is never empty.
+use Rattle.std.specs.Prelude.{Ok, Err}
 use mathlib.Core.Path.{◌≡◌, refl, ap}
 use mathlib.Core.Logic.{◌⊎◌, inl, inr}
 use mathlib.Core.Bool.{Bool, true, false, cond, not}
@@ -8,10 +9,10 @@ use Prim.Native.Nat.{ℕ, zero, suc, ◌≤◌, ◌<◌}
 use native.Mathlib.Omega.{arith}
 use lib.Dec.{T, ltb, ltb→lt, nltb→le}
 use lib.ListN.{length}
+use Rattle.paging.specs.Walk.{Step}
 use Rattle.paging.specs.declared.Walk.{Walk}
 use Rattle.paging.specs.declared.Request.{Request}
-use Rattle.paging.specs.declared.Step.{Step}
-use Rattle.paging.specs.declared.Step.TheVariants.{On, Absent, Beyond, Complete}
+use Rattle.paging.specs.declared.Stop.TheVariants.{Absent, Beyond, Complete}
 use Rattle.paging.proofs.Tests.{true_T, false_T}
 use Rattle.rules.specs.declared.Outcome.{Outcome}
 use Rattle.rules.specs.declared.Outcome.TheVariants.{Address, Fault}
@@ -225,15 +226,15 @@ module _ (seen : View) (L : ℕ) (q : Request) where
         (o, record { walk = w; held = (held_is_kept seen law n w).1 h; gives = rw e m })
 
     by_step_lem : (n : ℕ) (w : Walk) → Kept seen n w → (s : Step) → seen.steps n w ≡ s
-        → ((w' : Walk) → seen.steps n w ≡ On w' → (o : Outcome) × Permitted seen q n o) → (o : Outcome) × Permitted seen q n o
-    by_step_lem n w h (On w') e next = next w' e
-    by_step_lem n w h Absent e next = gives_some n w h Absent e (omega arith)
-    by_step_lem n w h Beyond e next = gives_some n w h Beyond e (omega arith)
-    by_step_lem n w h Complete e next = gives_some n w h Complete e (omega arith)
+        → ((w' : Walk) → seen.steps n w ≡ Ok w' → (o : Outcome) × Permitted seen q n o) → (o : Outcome) × Permitted seen q n o
+    by_step_lem n w h (Ok w') e next = next w' e
+    by_step_lem n w h (Err Absent) e next = gives_some n w h (Err Absent) e (omega arith)
+    by_step_lem n w h (Err Beyond) e next = gives_some n w h (Err Beyond) e (omega arith)
+    by_step_lem n w h (Err Complete) e next = gives_some n w h (Err Complete) e (omega arith)
 
     -- following it ends, since the level falls
     some_outcome : (n l : ℕ) (w : Walk) → Kept seen n w → w.level ≤ l → (o : Outcome) × Permitted seen q n o
-    some_outcome n zero w h le = by_step_lem n w h Complete (law.done n w (omega arith)) (λ w' e. absurd (omega (arith, (law.down n w w' e).level)))
+    some_outcome n zero w h le = by_step_lem n w h (Err Complete) (law.done n w (omega arith)) (λ w' e. absurd (omega (arith, (law.down n w w' e).level)))
     some_outcome n (suc l) w h le =
         by_step_lem n w h (seen.steps n w) refl (λ w' e. some_outcome n l w' (extend h e) (omega (arith, (law.down n w w' e).level)))
 

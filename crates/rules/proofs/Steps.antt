@@ -1,4 +1,5 @@
 -- The held walks from moment to moment: begin, extend, stay. The rule by moments says the same, in both directions.
+use Rattle.std.specs.Prelude.{Ok}
 use mathlib.Core.Path.{◌≡◌, refl, sym, ◌∙◌, ap}
 use mathlib.Core.Logic.{◌↔◌, ◌⊎◌, inl, inr}
 use mathlib.Core.Bool.{Bool, false, not}
@@ -7,7 +8,6 @@ use native.Mathlib.Omega.{arith}
 use native.Mathlib.Decide.{le_ind, ℕ_discrete}
 use lib.Dec.{T}
 use Rattle.paging.specs.declared.Walk.{Walk}
-use Rattle.paging.specs.declared.Step.TheVariants.{On}
 use Rattle.rules.specs.View.{View, Quiet}
 use Rattle.rules.specs.Held.{Reads, begun, read, Held, partial, complete}
 use Rattle.rules.specs.Coherent.{Coherent}
@@ -49,7 +49,7 @@ module _ (seen : View) where
   since (read d le _) = let h = since d in omega arith
 
   module _ {L G : ℕ} (law : Coherent seen L G) where
-    going : (k : ℕ) (w w' : Walk) → seen.steps k w ≡ On w' → 0 < w.level
+    going : (k : ℕ) (w w' : Walk) → seen.steps k w ≡ Ok w' → 0 < w.level
     going k w w' e = omega (arith, (law.down k w w' e).level)
 
     partial_lasts : {m : ℕ} {w : Walk} → Kept seen m w → 0 < w.level → (n : ℕ) → m ≤ n → Quiet seen.ends_partial m n → Kept seen n w
@@ -71,7 +71,7 @@ module _ (seen : View) where
     split (suc l) = inl (omega arith)
 
     -- a partial walk that is held and goes on is held
-    extended : (n : ℕ) (w w' : Walk) → Held seen n w → seen.steps n w ≡ On w' → (0 < w'.level) ⊎ (w'.level ≡ 0) → Held seen n w'
+    extended : (n : ℕ) (w w' : Walk) → Held seen n w → seen.steps n w ≡ Ok w' → (0 < w'.level) ⊎ (w'.level ≡ 0) → Held seen n w'
     extended n w w' (partial p r le q) e (inl x) = partial x (read r le e) (omega arith) q
     extended n w w' (partial p r le q) e (inr x) = complete x (read r le e) (omega arith) q (λ k a b. absurd (omega arith))
     extended n w w' (complete z r le q c) e d = absurd (omega (arith, going n w w' e))

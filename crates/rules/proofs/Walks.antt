@@ -1,4 +1,5 @@
 -- The held walks of a moment as a list: what the last event left and the walk that begins, each with all it goes on to.
+use Rattle.std.specs.Prelude.{Ok, Err}
 use mathlib.Core.Path.{◌≡◌, refl, sym, ◌∙◌, ap}
 use mathlib.Core.Logic.{◌↔◌, ◌⊎◌, inl, inr}
 use mathlib.Core.Bool.{Bool, true, false, cond, not, ◌&&◌, ◌||◌}
@@ -7,9 +8,9 @@ use mathlib.Core.List.{List, [], ◌∷◌}
 use Prim.Native.Nat.{ℕ, zero, suc, ◌≤◌}
 use native.Mathlib.Omega.{arith}
 use lib.Dec.{T, eqb, eqb→eq}
+use Rattle.paging.specs.Walk.{Step}
 use Rattle.paging.specs.declared.Walk.{Walk}
-use Rattle.paging.specs.declared.Step.{Step}
-use Rattle.paging.specs.declared.Step.TheVariants.{On, Absent, Beyond, Complete}
+use Rattle.paging.specs.declared.Stop.TheVariants.{Absent, Beyond, Complete}
 use Rattle.paging.proofs.Tests.{and_l, and_r, or_l, or_r, or_cases}
 use Rattle.rules.specs.View.{View}
 use Rattle.rules.specs.Counts.{keep}
@@ -100,10 +101,10 @@ add_new (v ∷ vs) ws x m = cases (some (same v) ws) refl (Memᴰ.cases_cons m) 
 -- ---- following a walk
 
 abbrev onward : (Walk → List Walk) → Step → List Walk
-onward f (On w) = f w
-onward f Absent = []
-onward f Beyond = []
-onward f Complete = []
+onward f (Ok w) = f w
+onward f (Err Absent) = []
+onward f (Err Beyond) = []
+onward f (Err Complete) = []
 
 module _ (seen : View) where
   -- the walk and all it goes on to with the entries of moment n, for l levels
@@ -126,14 +127,14 @@ module _ (seen : View) where
   -- w goes on to x with the entries of moment n, in any number of steps
   pub data Leads (n : ℕ) : Walk → Walk → Type 0 where
     here : {w x : Walk} → x ≡ w → Leads n w x
-    there : {w w' x : Walk} → seen.steps n w ≡ On w' → Leads n w' x → Leads n w x
+    there : {w w' x : Walk} → seen.steps n w ≡ Ok w' → Leads n w' x → Leads n w x
 
   -- what a moment's held walks grow from
   pub data Seed : ℕ → Walk → Type 0 where
     root : {n : ℕ} {w : Walk} → w ≡ seen.begins n → Seed n w
     left : {n : ℕ} {w : Walk} → Kept seen n w → T (not (ends seen w n)) → Seed (suc n) w
 
-  further : {n : ℕ} {w x y : Walk} → Leads n w x → seen.steps n x ≡ On y → Leads n w y
+  further : {n : ℕ} {w x y : Walk} → Leads n w x → seen.steps n x ≡ Ok y → Leads n w y
   further (here e) s = there (ap (seen.steps _) (sym e) ∙ s) (here refl)
   further (there e d) s = there e (further d s)
 
@@ -161,10 +162,10 @@ module _ (seen : View) where
     chain_e n (suc l) w x m = pick (Memᴰ.cases_cons m) (λ w'. chain_e n l w' x)
       where
         onto : (s : Step) → seen.steps n w ≡ s → Mem x (onward (chain n l) s) → ((w' : Walk) → Mem x (chain n l w') → Leads n w' x) → Leads n w x
-        onto (On w') e k ih = there e (ih w' k)
-        onto Absent e k ih = absurd (Memᴰ.not-nil k)
-        onto Beyond e k ih = absurd (Memᴰ.not-nil k)
-        onto Complete e k ih = absurd (Memᴰ.not-nil k)
+        onto (Ok w') e k ih = there e (ih w' k)
+        onto (Err Absent) e k ih = absurd (Memᴰ.not-nil k)
+        onto (Err Beyond) e k ih = absurd (Memᴰ.not-nil k)
+        onto (Err Complete) e k ih = absurd (Memᴰ.not-nil k)
 
         pick : (x ≡ w) ⊎ Mem x (onward (chain n l) (seen.steps n w)) → ((w' : Walk) → Mem x (chain n l w') → Leads n w' x) → Leads n w x
         pick (inl e) ih = here e

@@ -1,14 +1,13 @@
 -- The rule by moments, for any number of levels and of events.
-use Rattle.std.specs.Prelude.{◌≡◌, ℕ, ◌≤◌, ◌<◌}
+use Rattle.std.specs.Prelude.{◌≡◌, ℕ, ◌≤◌, ◌<◌, Ok}
 use Rattle.paging.specs.declared.Walk.{Walk}
-use Rattle.paging.specs.declared.Step.TheVariants.{On}
 use Rattle.rules.specs.View.{View, Quiet}
 
 module _ (seen : View) where
   -- a walk that began at moment s and read its last entry at moment t; each read is at the moment of the one before or later
   pub data Reads (s : ℕ) : ℕ → Walk → Type 0 where
     begun : {t : ℕ} {w : Walk} → t ≡ s → w ≡ seen.begins s → Reads s t w
-    read : {t u : ℕ} {w w' : Walk} → Reads s t w → t ≤ u → seen.steps u w ≡ On w' → Reads s u w'
+    read : {t u : ℕ} {w w' : Walk} → Reads s t w → t ≤ u → seen.steps u w ≡ Ok w' → Reads s u w'
 
   -- A walk is held at moment n.
   -- "A completed walk … is held … with no INVLPG and no CR3 write of p after t4 and up to t1, and after t1 no CR3 write
@@ -28,10 +27,10 @@ module _ (seen : View) where
     pub w₂ : Walk
     pub w₁ : Walk
     pub order : (t₄ ≤ t₃) × (t₃ ≤ t₂) × (t₂ ≤ t₁) × (t₁ ≤ n)
-    pub entry₄ : seen.steps t₄ (seen.begins t₄) ≡ On w₃
-    pub entry₃ : seen.steps t₃ w₃ ≡ On w₂
-    pub entry₂ : seen.steps t₂ w₂ ≡ On w₁
-    pub entry₁ : seen.steps t₁ w₁ ≡ On w
+    pub entry₄ : seen.steps t₄ (seen.begins t₄) ≡ Ok w₃
+    pub entry₃ : seen.steps t₃ w₃ ≡ Ok w₂
+    pub entry₂ : seen.steps t₂ w₂ ≡ Ok w₁
+    pub entry₁ : seen.steps t₁ w₁ ≡ Ok w
     pub quiet : Quiet seen.ends_partial t₄ t₁
     pub kept : Quiet seen.ends_complete t₁ n
 
@@ -40,10 +39,10 @@ module _ (seen : View) where
   -- only if this holds.
   pub data FourPartial (n : ℕ) (w : Walk) : Type 0 where
     level₄ : w ≡ seen.begins n → FourPartial n w
-    level₃ : {t₄ : ℕ} → t₄ ≤ n → seen.steps t₄ (seen.begins t₄) ≡ On w → Quiet seen.ends_partial t₄ n → FourPartial n w
+    level₃ : {t₄ : ℕ} → t₄ ≤ n → seen.steps t₄ (seen.begins t₄) ≡ Ok w → Quiet seen.ends_partial t₄ n → FourPartial n w
     level₂ : {t₄ t₃ : ℕ} {w₃ : Walk} → (t₄ ≤ t₃) × (t₃ ≤ n)
-        → seen.steps t₄ (seen.begins t₄) ≡ On w₃ → seen.steps t₃ w₃ ≡ On w
+        → seen.steps t₄ (seen.begins t₄) ≡ Ok w₃ → seen.steps t₃ w₃ ≡ Ok w
         → Quiet seen.ends_partial t₄ n → FourPartial n w
     level₁ : {t₄ t₃ t₂ : ℕ} {w₃ w₂ : Walk} → (t₄ ≤ t₃) × (t₃ ≤ t₂) × (t₂ ≤ n)
-        → seen.steps t₄ (seen.begins t₄) ≡ On w₃ → seen.steps t₃ w₃ ≡ On w₂ → seen.steps t₂ w₂ ≡ On w
+        → seen.steps t₄ (seen.begins t₄) ≡ Ok w₃ → seen.steps t₃ w₃ ≡ Ok w₂ → seen.steps t₂ w₂ ≡ Ok w
         → Quiet seen.ends_partial t₄ n → FourPartial n w

@@ -1,10 +1,10 @@
 -- "Outcomes of a question", and the one right list of them.
-use Rattle.std.specs.Prelude.{◌↔◌, cond, ℕ, ◌+◌, ◌<◌}
+use Rattle.std.specs.Prelude.{◌↔◌, cond, ℕ, ◌+◌, ◌<◌, Ok, Err}
 use mathlib.Core.List.{List, [], ◌∷◌, Memᴰ}
+use Rattle.paging.specs.Walk.{Step}
 use Rattle.paging.specs.declared.Walk.{Walk}
 use Rattle.paging.specs.declared.Request.{Request}
-use Rattle.paging.specs.declared.Step.{Step}
-use Rattle.paging.specs.declared.Step.TheVariants.{On, Absent, Beyond, Complete}
+use Rattle.paging.specs.declared.Stop.TheVariants.{Absent, Beyond, Complete}
 use Rattle.paging.specs.Layout.{page_of}
 use Rattle.paging.specs.Request.{request_of, enough}
 use Rattle.rules.specs.declared.Event.{Event}
@@ -19,10 +19,10 @@ use Rattle.rules.specs.Held.{Held}
 -- rights fault if a held completed walk lacks one; for each held partial walk, level 4 included, the fault its next
 -- entry gives at the end". Base codes: "P is 0 … 0; a frame of G or more … 9; … lacks a needed right … 1".
 abbrev pub given : Request → Walk → Step → List Outcome
-given q w (On w') = []
-given q w Absent = Fault (0 + q.adds) ∷ []
-given q w Beyond = Fault (9 + q.adds) ∷ []
-given q w Complete = cond (enough q w.rights) (Address w.frame) (Fault (1 + q.adds)) ∷ []
+given q w (Ok w') = []
+given q w (Err Absent) = Fault (0 + q.adds) ∷ []
+given q w (Err Beyond) = Fault (9 + q.adds) ∷ []
+given q w (Err Complete) = cond (enough q w.rights) (Address w.frame) (Fault (1 + q.adds)) ∷ []
 
 pub record Permitted (seen : View) (q : Request) (n : ℕ) (o : Outcome) : Type 0 where
   pub walk : Walk

@@ -1,9 +1,8 @@
 -- What one processor and one page see of a history. The rule of held walks speaks of a view, and of nothing else.
 use Rattle.std.specs.Prelude.{Bool, false, not, ◌&&◌, ◌||◌, List, ℕ, ◌≤◌, ◌<◌, T, eqb}
 use Rattle.paging.specs.declared.Walk.{Walk}
-use Rattle.paging.specs.declared.Step.{Step}
 use Rattle.paging.specs.Layout.{Layout, get, index, page_of}
-use Rattle.paging.specs.Walk.{start, step}
+use Rattle.paging.specs.Walk.{Step, start, step}
 use Rattle.rules.specs.declared.Event.{Event}
 use Rattle.rules.specs.History.{Setup, is_invlpg, is_cr3_write, is_by, event_at, words_at, cr3_at}
 

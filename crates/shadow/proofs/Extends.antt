@@ -1,4 +1,5 @@
 -- Extending a slot, by the tests on the way; and a guest frame that the map has is below the map's length.
+use Rattle.std.specs.Prelude.{Option, Some, None}
 use mathlib.Core.Path.{◌≡◌, refl, sym, ap, ◌∙◌}
 use mathlib.Core.Bool.{Bool, true, false, cond, ◌&&◌}
 use mathlib.Core.List.{List, [], ◌∷◌}
@@ -9,8 +10,6 @@ use lib.ListN.{length, get_or}
 use borrow.Author.Tests.{lt-ltb, le-ltb}
 use Rattle.paging.specs.declared.Guest.{Guest}
 use Rattle.paging.specs.declared.Host.{Host}
-use Rattle.paging.specs.declared.Origin.{Origin}
-use Rattle.paging.specs.declared.Origin.TheVariants.{Of, Nowhere}
 use Rattle.paging.specs.Frame.{guest, host, origin_from, origin_of}
 use Rattle.paging.specs.Layout.{index, frame_of, rights_of, is_present}
 use Rattle.paging.specs.Walk.{meet}
@@ -25,12 +24,12 @@ use Rattle.shadow.specs.Moves.{by_place, place_of, place_below, after_extend}
 
 -- ---- places are small
 
-pub origin_small : (map : List ℕ) (h : Host) (k : ℕ) (g : Guest) → origin_from k map h ≡ Of g → g.0 < k + length map
+pub origin_small : (map : List ℕ) (h : Host) (k : ℕ) (g : Guest) → origin_from k map h ≡ Some g → g.0 < k + length map
 unfolding origin_from
 origin_small [] h k g e = let z : ◌≡◌ {A = ℕ} 0 1 = cc in absurd (omega arith)
 origin_small (x ∷ xs) h k g e = go (eqb x h.0) e (origin_small xs h (k + 1) g)
   where
-    go : (b : Bool) → cond b (Of (guest k)) (origin_from (k + 1) xs h) ≡ Of g → (origin_from (k + 1) xs h ≡ Of g → g.0 < k + 1 + length xs) → g.0 < k + suc (length xs)
+    go : (b : Bool) → cond b (Some (guest k)) (origin_from (k + 1) xs h) ≡ Some g → (origin_from (k + 1) xs h ≡ Some g → g.0 < k + 1 + length xs) → g.0 < k + suc (length xs)
     go true e more = let q : guest k ≡ g = cc in omega (arith, ap (λ (y : Guest). y.0) q)
     go false e more = omega (arith, more e)
 
@@ -38,9 +37,9 @@ pub place_small : (M : Machine) (map : List ℕ) (l e x : ℕ) → place_below M
 unfolding place_below
 place_small M map l e x q = go (eqb l 1) (origin_of map (host (frame_of M.tables e))) refl (ltb (named M e) (table_count M)) q
   where
-    go : (b : Bool) (o : Origin) → origin_of map (host (frame_of M.tables e)) ≡ o → (t : Bool) → cond b (place_of o) (cond t (At (named M e)) Off) ≡ At x → x < length map + table_count M + 1
-    go true (Of g) eo t q = let r : g.0 ≡ x = cc in omega (arith, origin_small map (host (frame_of M.tables e)) 0 g eo)
-    go true Nowhere eo t q = let z : ◌≡◌ {A = ℕ} 0 1 = cc in absurd (omega arith)
+    go : (b : Bool) (o : Option Guest) → origin_of map (host (frame_of M.tables e)) ≡ o → (t : Bool) → cond b (place_of o) (cond t (At (named M e)) Off) ≡ At x → x < length map + table_count M + 1
+    go true (Some g) eo t q = let r : g.0 ≡ x = cc in omega (arith, origin_small map (host (frame_of M.tables e)) 0 g eo)
+    go true None eo t q = let z : ◌≡◌ {A = ℕ} 0 1 = cc in absurd (omega arith)
     go false o eo true q = let r : named M e ≡ x = cc in omega (arith, named_small M e)
     go false o eo false q = let z : ◌≡◌ {A = ℕ} 0 1 = cc in absurd (omega arith)
 

@@ -1,5 +1,6 @@
 -- How a walk of the guest's tables ends: its last table and its rights are in range, and so is a fault's code. And what
 -- a miss does once the walk has ended.
+use Rattle.std.specs.Prelude.{Ok, Err}
 use mathlib.Core.Path.{◌≡◌, refl, sym, ap, ◌∙◌}
 use mathlib.Core.Bool.{true, false}
 use mathlib.Core.List.{List}
@@ -8,11 +9,10 @@ use native.Mathlib.Omega.{arith}
 use Rattle.paging.specs.declared.Guest.{Guest}
 use Rattle.paging.specs.declared.Request.{Request}
 use Rattle.paging.specs.declared.Walk.{Walk}
-use Rattle.paging.specs.declared.Step.{Step}
-use Rattle.paging.specs.declared.Step.TheVariants.{On, Absent, Beyond, Complete}
+use Rattle.paging.specs.declared.Stop.TheVariants.{Absent, Beyond, Complete}
 use Rattle.paging.specs.Layout.{Layout, get, put, index, with_a, rights_of}
 use Rattle.paging.specs.Request.{enough}
-use Rattle.paging.specs.Walk.{start, step}
+use Rattle.paging.specs.Walk.{Step, start, step}
 use Rattle.paging.proofs.Rights.{meet_small}
 use Rattle.paging.proofs.Steps.{goes}
 use Rattle.tables.specs.State.{Machine, State, state_of, shadows, root_of}
@@ -44,13 +44,13 @@ module _ (Y : Layout) (G page limit : ℕ) (most : G ≤ limit) where
       e = get Y words w.frame.0 (index Y page w.level)
 
       go : (r : Step) → step Y G w (get Y words w.frame.0 (index Y page w.level)) ≡ r
-          → ((w' : Walk) → step Y G w (get Y words w.frame.0 (index Y page w.level)) ≡ On w'
+          → ((w' : Walk) → step Y G w (get Y words w.frame.0 (index Y page w.level)) ≡ Ok w'
           → InRange limit (walk_from Y G page n (put Y words w.frame.0 (index Y page w.level) (with_a (get Y words w.frame.0 (index Y page w.level)))) w.frame w').ended)
           → InRange limit (by_step words last w (λ w'. walk_from Y G page n (put Y words w.frame.0 (index Y page w.level) (with_a (get Y words w.frame.0 (index Y page w.level)))) w.frame w') r).ended
-      go (On w') q on = on w' q
-      go Absent q on = omega arith
-      go Beyond q on = omega arith
-      go Complete q on = (hl, hr)
+      go (Ok w') q on = on w' q
+      go (Err Absent) q on = omega arith
+      go (Err Beyond) q on = omega arith
+      go (Err Complete) q on = (hl, hr)
 
   pub guest_range : (words : List ℕ) (cr3 : Guest) → cr3.0 < limit → {words' : List ℕ} {r : Walked} → guest_walk words' r ≡ walk_guest Y G page words cr3 → InRange limit r
   guest_range words cr3 h e =

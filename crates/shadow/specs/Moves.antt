@@ -1,7 +1,5 @@
 -- "What each event does", but for access: store, INVLPG, CR3 write, begin, extend, drop.
-use Rattle.std.specs.Prelude.{cond, ◌&&◌, List, ℕ, ◌+◌, ◌-◌, eqb, ltb, set}
-use Rattle.paging.specs.declared.Origin.{Origin}
-use Rattle.paging.specs.declared.Origin.TheVariants.{Of, Nowhere}
+use Rattle.std.specs.Prelude.{cond, ◌&&◌, List, ℕ, ◌+◌, ◌-◌, eqb, ltb, set, Option, Some, None}
 use Rattle.paging.specs.Frame.{guest, host, origin_of}
 use Rattle.paging.specs.Layout.{index, page_of, frame_of, rights_of, is_present}
 use Rattle.paging.specs.Walk.{meet}
@@ -41,9 +39,9 @@ abbrev pub by_place : Place → (ℕ → Result) → Result → Result
 by_place (At x) on off = on x
 by_place Off on off = off
 
-abbrev pub place_of : Origin → Place
-place_of (Of g) = At g.0
-place_of Nowhere = Off
+abbrev pub place_of : Option Guest → Place
+place_of (Some g) = At g.0
+place_of None = Off
 
 -- "Store: the word only. Tables are not guarded."
 abbrev pub after_store : ℕ → ℕ → State → Result

@@ -1,4 +1,5 @@
 -- What the list call leaves is the right list, and its pairs are written as the rendering says.
+use Rattle.std.specs.Prelude.{Ok, Err}
 use mathlib.Core.Path.{◌≡◌, refl, ap, ap₂, ◌∙◌, subst}
 use mathlib.Core.Logic.{◌⊎◌, inl, inr}
 use mathlib.Core.Bool.{Bool, true, false, cond}
@@ -8,11 +9,11 @@ use Prim.Native.Nat.{ℕ, zero, suc, ◌+◌, ◌*◌, ◌/◌, ◌^◌, ◌<◌
 use native.Mathlib.Omega.{arith}
 use lib.ListN.{length, take, drop, get_or, replicate, length-append, length-drop, length-replicate}
 use lib.Seq.{take_at}
+use Rattle.paging.specs.Walk.{Step}
 use Rattle.paging.specs.declared.Guest.{Guest}
 use Rattle.paging.specs.declared.Walk.{Walk}
 use Rattle.paging.specs.declared.Request.{Request}
-use Rattle.paging.specs.declared.Step.{Step}
-use Rattle.paging.specs.declared.Step.TheVariants.{On, Absent, Beyond, Complete}
+use Rattle.paging.specs.declared.Stop.TheVariants.{Absent, Beyond, Complete}
 use Rattle.paging.specs.Layout.{tables64, page_of}
 use Rattle.paging.specs.Request.{request_of, enough}
 use Rattle.paging.proofs.Layouts.{tables64_sound}
@@ -57,18 +58,18 @@ module _ (map cr3s start events : List ℕ) (q : Question) (p : Posed map cr3s s
 -- ---- the frames of a right list
 
 given-frame : (q : Request) (w : Walk) (s : Step) (f : Guest) → Memᴰ (Address f) (given q w s) → f.0 ≡ w.frame.0
-given-frame q w (On w') f m = absurd (Memᴰ.not-nil m)
-given-frame q w Absent f m = one (Memᴰ.cases_cons m)
+given-frame q w (Ok w') f m = absurd (Memᴰ.not-nil m)
+given-frame q w (Err Absent) f m = one (Memᴰ.cases_cons m)
   where
     one : (Address f ≡ Fault (0 + q.adds)) ⊎ Memᴰ (Address f) [] → f.0 ≡ w.frame.0
     one (inl e) = let z : ◌≡◌ {A = ℕ} 0 1 = cc in absurd (omega arith)
     one (inr k) = absurd (Memᴰ.not-nil k)
-given-frame q w Beyond f m = one (Memᴰ.cases_cons m)
+given-frame q w (Err Beyond) f m = one (Memᴰ.cases_cons m)
   where
     one : (Address f ≡ Fault (9 + q.adds)) ⊎ Memᴰ (Address f) [] → f.0 ≡ w.frame.0
     one (inl e) = let z : ◌≡◌ {A = ℕ} 0 1 = cc in absurd (omega arith)
     one (inr k) = absurd (Memᴰ.not-nil k)
-given-frame q w Complete f m = one (enough q w.rights) (Memᴰ.cases_cons m)
+given-frame q w (Err Complete) f m = one (enough q w.rights) (Memᴰ.cases_cons m)
   where
     one : (b : Bool) → (Address f ≡ cond b (Address w.frame) (Fault (1 + q.adds))) ⊎ Memᴰ (Address f) [] → f.0 ≡ w.frame.0
     one true (inl e) = let h : f ≡ w.frame = cc in ap (λ (g : Guest). g.0) h

@@ -1,4 +1,5 @@
 -- A level 1 entry names no table; who is named is live, of its namer's share and one level lower.
+use Rattle.std.specs.Prelude.{Some}
 use mathlib.Core.Path.{◌≡◌, refl, sym, ap, ◌∙◌}
 use mathlib.Core.Bool.{Bool, true, false, cond}
 use mathlib.Core.List.{List, [], ◌∷◌}
@@ -10,7 +11,6 @@ use lib.Dec.{eqb}
 use lib.ListN.{length, get_or}
 use borrow.Author.Tests.{eqb-true}
 use Rattle.paging.specs.declared.Host.{Host}
-use Rattle.paging.specs.declared.Origin.TheVariants.{Of}
 use Rattle.paging.specs.Frame.{guest, host, origin_from}
 use Rattle.paging.specs.Layout.{bit, frame_of, is_present}
 use Rattle.paging.proofs.Tests.{both}
@@ -27,7 +27,7 @@ unfolding origin_from
 mapped_from k [] h e = let z : ◌≡◌ {A = ℕ} 0 1 = cc in absurd (omega arith)
 mapped_from k (x ∷ xs) h e = go (eqb x h.0) refl e (mapped_from (k + 1) xs h)
   where
-    go : (b : Bool) → eqb x h.0 ≡ b → is_of (cond b (Of (guest k)) (origin_from (k + 1) xs h)) ≡ true
+    go : (b : Bool) → eqb x h.0 ≡ b → is_of (cond b (Some (guest k)) (origin_from (k + 1) xs h)) ≡ true
         → (is_of (origin_from (k + 1) xs h) ≡ true → (i : ℕ) × (i < length xs) × (get_or xs i 0 ≡ h.0))
         → (i : ℕ) × (i < length (x ∷ xs)) × (get_or (x ∷ xs) i 0 ≡ h.0)
     go true q e more = (0, omega arith, eqb-true x h.0 q)

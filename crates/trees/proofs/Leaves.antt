@@ -1,4 +1,5 @@
 -- Writing or clearing an entry of a level 1 table keeps the trees, and the entry that a fill writes is a leaf.
+use Rattle.std.specs.Prelude.{Some}
 use mathlib.Core.Path.{◌≡◌, refl, sym, ap, ap₂, subst, ◌∙◌}
 use mathlib.Core.Bool.{Bool, true, false, cond}
 use mathlib.Core.List.{List, [], ◌∷◌}
@@ -10,7 +11,6 @@ use lib.Dec.{eqb}
 use lib.ListN.{length, get_or}
 use borrow.Author.Tests.{eq-eqb}
 use Rattle.paging.specs.declared.Host.{Host}
-use Rattle.paging.specs.declared.Origin.TheVariants.{Of}
 use Rattle.paging.specs.Frame.{guest, host, origin_from}
 use Rattle.paging.specs.Layout.{Layout, bit, frame_of, rights_of, compose, is_present}
 use Rattle.paging.specs.Walk.{meet}
@@ -99,7 +99,7 @@ mapped_to j [] h k lt q = absurd (omega arith)
 mapped_to j (x ∷ xs) h zero lt q = simp (eq-eqb x h.0 q)
 mapped_to j (x ∷ xs) h (suc k) lt q = go (eqb x h.0) (mapped_to (j + 1) xs h k (omega arith) q)
   where
-    go : (b : Bool) → is_of (origin_from (j + 1) xs h) ≡ true → is_of (cond b (Of (guest j)) (origin_from (j + 1) xs h)) ≡ true
+    go : (b : Bool) → is_of (origin_from (j + 1) xs h) ≡ true → is_of (cond b (Some (guest j)) (origin_from (j + 1) xs h)) ≡ true
     go true more = refl
     go false more = more
 

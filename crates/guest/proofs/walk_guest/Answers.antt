@@ -1,10 +1,11 @@
+use Rattle.std.specs.Prelude.{Ok, Err}
 use mathlib.Core.Path.{◌≡◌, refl, sym, ap, ap₂, ◌∙◌}
 use mathlib.Core.List.{List}
 use Prim.Native.Nat.{ℕ, ◌-◌}
 use native.Mathlib.Omega.{arith}
+use Rattle.paging.specs.Walk.{Step}
 use Rattle.paging.specs.declared.Walk.{Walk}
-use Rattle.paging.specs.declared.Step.{Step}
-use Rattle.paging.specs.declared.Step.TheVariants.{On, Absent, Beyond, Complete}
+use Rattle.paging.specs.declared.Stop.TheVariants.{Absent, Beyond, Complete}
 use Rattle.paging.specs.Layout.{tables64, get, put, index, rights_of, with_a}
 use Rattle.paging.proofs.Indices.{index_small}
 use Rattle.paging.proofs.Rights.{meet_small}
@@ -20,7 +21,7 @@ at_entry : (c : After-step) → let l = c.loop-w in
 at_entry c = c.entry_at-e.ensures ∙ ap (get tables64 c.loop-w.words c.loop-w.w.frame.0) c.index_of-i.ensures
 
 -- where the walk goes on to
-gone : (c : After-step) (w' : Walk) → c.step.result ≡ On w'
+gone : (c : After-step) (w' : Walk) → c.step.result ≡ Ok w'
     → Goes tables64 c.args.frames c.loop-w.w c.entry_at-e.result w'
 gone c w' q = goes tables64 c.args.frames c.loop-w.w c.entry_at-e.result w' (sym c.step.ensures ∙ q)
 
@@ -85,19 +86,19 @@ pub shape_of-words-in-Absent : goal.shape_of-words-in-Absent
 shape_of-words-in-Absent c = c.loop-w.invariant.3
 
 pub returns-in-Absent : goal.returns-in-Absent
-returns-in-Absent c = ended (goal.at.returns-in-Absent c).After-step Absent c.in-Absent.is
+returns-in-Absent c = ended (goal.at.returns-in-Absent c).After-step (Err Absent) c.in-Absent.is
 
 pub shape_of-words-in-Beyond : goal.shape_of-words-in-Beyond
 shape_of-words-in-Beyond c = c.loop-w.invariant.3
 
 pub returns-in-Beyond : goal.returns-in-Beyond
-returns-in-Beyond c = ended (goal.at.returns-in-Beyond c).After-step Beyond c.in-Beyond.is
+returns-in-Beyond c = ended (goal.at.returns-in-Beyond c).After-step (Err Beyond) c.in-Beyond.is
 
 pub shape_of-words-in-Complete : goal.shape_of-words-in-Complete
 shape_of-words-in-Complete c = c.loop-w.invariant.3
 
 pub returns-in-Complete : goal.returns-in-Complete
-returns-in-Complete c = ended (goal.at.returns-in-Complete c).After-step Complete c.in-Complete.is
+returns-in-Complete c = ended (goal.at.returns-in-Complete c).After-step (Err Complete) c.in-Complete.is
 
 pub shape_of-words : goal.shape_of-words
 shape_of-words c = c.loop-w.invariant.3

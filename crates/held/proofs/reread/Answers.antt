@@ -19,17 +19,17 @@ pub returns-in_default : goal.returns-in_default
 returns-in_default c =
     let a = c.args in
     let m = ap (λ (k : ℕ). get_or a.work.now k 0) (sym c.cell_of-k.ensures) ∙ c.if-work-k-ne1.false in
-    sym (stops_unless_on _ c.next.result a.work.now c.in_default.not-On)
+    sym (stops_unless_on _ c.next.result a.work.now c.in_default.not-Ok)
     ∙ sym (reread-set tables64 a.at.frames a.at.page a.words.now a.w a.work.now m c.next.result (sym c.next.ensures))
 
 pub follow-requires : goal.follow-requires
 follow-requires c =
     let a = c.args in
-    (c.requires.0, (below tables64 a.at.frames a.at.page a.words.now a.w c.in-On.on c.requires.1 (sym c.next.ensures ∙ c.in-On.is)).byte)
+    (c.requires.0, (below tables64 a.at.frames a.at.page a.words.now a.w c.in-Ok.on c.requires.1 (sym c.next.ensures ∙ c.in-Ok.is)).byte)
 
 pub returns : goal.returns
 returns c =
     let a = c.args in
     let m = ap (λ (k : ℕ). get_or a.work.now k 0) (sym c.cell_of-k.ensures) ∙ c.if-work-k-ne1.false in
     c.follow.ensures
-    ∙ sym (reread-set tables64 a.at.frames a.at.page a.words.now a.w a.work.now m _ (sym c.next.ensures ∙ c.in-On.is))
+    ∙ sym (reread-set tables64 a.at.frames a.at.page a.words.now a.w a.work.now m _ (sym c.next.ensures ∙ c.in-Ok.is))

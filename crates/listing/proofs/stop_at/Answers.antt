@@ -2,8 +2,8 @@
 use mathlib.Core.Path.{◌∙◌, ap}
 use lib.ListN.{get_or}
 use borrow.Author.Tests.{eq-eqb, ne_eqb}
+use Rattle.paging.specs.Walk.{Step}
 use Rattle.paging.specs.declared.Walk.{Walk}
-use Rattle.paging.specs.declared.Step.{Step}
 use Rattle.held.specs.FollowCode.{step_in}
 use Rattle.listing.specs.CollectCode.{stop_code}
 use Rattle.listing.proofs.Bytes.{byte_walk}

@@ -1,19 +1,9 @@
-use native.Mathlib.Omega.{arith}
-use borrow.Author.Tests.{lt-ltb, le-ltb}
+use mathlib.Core.Path.{◌∙◌}
+use lib.Dec.{ltb}
 use Rattle.paging.specs.Frame.{cr3s_fit}
-use Rattle.paging.proofs.Loops.{passed_none, passed_more, passed_stop, passed-all}
+use Rattle.paging.proofs.Chains.{all_list}
 use Rattle.paging.proofs.cr3s_fit.Goals as goal
-
-pub loop-p-init : goal.loop-p-init
-loop-p-init c = passed_none
-
-pub returns-then-cr3s-p : goal.returns-then-cr3s-p
-unfolding cr3s_fit
-returns-then-cr3s-p c = passed_stop c.loop-p.invariant (omega arith) (le-ltb _ _ c.if-cr3s-p.true)
-
-pub loop-p-preserved : goal.loop-p-preserved
-loop-p-preserved c = passed_more c.loop-p.invariant (omega arith) (lt-ltb _ _ c.if-cr3s-p.false)
 
 pub returns : goal.returns
 unfolding cr3s_fit
-returns c = passed-all c.loop-p.invariant (omega arith)
+returns c = let a = c.args in c.are_below.ensures ∙ all_list (λ f. ltb f a.frames) a.cr3s.now

@@ -1,18 +1,13 @@
-use mathlib.Core.Path.{ap}
-use mathlib.Core.Bool.{not}
-use native.Mathlib.Omega.{arith}
-use borrow.Author.Tests.{eq-eqb, ne_eqb}
-use Rattle.paging.proofs.Loops.{passed_none, passed_more, passed_stop, passed-all}
+use Rattle.std.proofs.iter.runs.Made.{chains}
+use Rattle.std.proofs.Common.{rules, ◌≡◌, ◌∙◌, ap, not, take, eqb}
+use Rattle.std.specs.List.{list_any}
+use Rattle.paging.proofs.Chains.{none_list}
+use Rattle.paging.proofs.Frames.{new_cut}
 use Rattle.paging.proofs.is_new.Goals as goal
 
-pub loop-j-init : goal.loop-j-init
-loop-j-init c = passed_none
-
-pub returns-then-map-j : goal.returns-then-map-j
-returns-then-map-j c = passed_stop c.loop-j.invariant (omega arith) (ap not (eq-eqb _ _ c.if-map-j.true))
-
-pub loop-j-preserved : goal.loop-j-preserved
-loop-j-preserved c = passed_more c.loop-j.invariant (omega arith) (ap not (ne_eqb _ _ c.if-map-j.false))
-
 pub returns : goal.returns
-returns c = passed-all c.loop-j.invariant (omega arith)
+returns c =
+    let a = c.args in
+    let front = take a.n a.map.now in
+    let q : c.contains.result ≡ list_any (λ x. eqb x a.f) front = search (rules, chains) in
+    ap not q ∙ none_list (λ x. eqb x a.f) front ∙ new_cut a.map.now a.n a.f c.requires

@@ -1,25 +1,12 @@
-use mathlib.Core.Path.{refl, sym, ◌∙◌}
-use native.Mathlib.Omega.{arith}
-use Rattle.paging.proofs.Frames.{origin_here, origin_next, origin_end}
+use Rattle.std.proofs.Common.{rules, ◌≡◌}
+use Rattle.std.specs.Option.{option_map}
+use mathlib.Core.Path.{◌∙◌, ap}
+use Rattle.paging.specs.Frame.{guest}
+use Rattle.paging.proofs.Chains.{origin_position}
 use Rattle.paging.proofs.origin_of.Goals as goal
-
-pub loop-i-init : goal.loop-i-init
-loop-i-init c = (omega arith, refl)
-
-pub returns-then-map-i : goal.returns-then-map-i
-returns-then-map-i c =
-    let a = c.args in
-    let i = c.loop-i.i in
-    sym (origin_here a.map.now a.h i (omega arith) c.if-map-i.true) ∙ c.loop-i.invariant.1
-
-pub loop-i-preserved : goal.loop-i-preserved
-loop-i-preserved c =
-    let a = c.args in
-    let i = c.loop-i.i in
-    (omega arith, sym (origin_next a.map.now a.h i (omega arith) c.if-map-i.false) ∙ c.loop-i.invariant.1)
 
 pub returns : goal.returns
 returns c =
     let a = c.args in
-    let i = c.loop-i.i in
-    sym (origin_end a.map.now a.h i (omega arith)) ∙ c.loop-i.invariant.1
+    let q : c.map.result ≡ option_map guest c.place_of.result = search rules in
+    q ∙ ap (option_map guest) c.place_of.ensures ∙ origin_position a.map.now a.h
