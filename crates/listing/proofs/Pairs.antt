@@ -2,10 +2,10 @@
 use mathlib.Core.Path.{◌≡◌, refl, sym, ◌∙◌, ap, ap₂}
 use mathlib.Core.Bool.{Bool, true, false, cond}
 use mathlib.Core.List.{List, [], ◌∷◌, ◌++◌, append-nil, append_assoc}
-use Prim.Native.Nat.{ℕ, suc, ◌+◌, ◌*◌, ◌<◌}
+use Prim.Native.Nat.{ℕ, suc, ◌+◌, ◌*◌, ◌≤◌, ◌<◌}
 use native.Mathlib.Numerals.{add-one}
 use native.Mathlib.Omega.{arith}
-use lib.ListN.{length, drop, get_or, set, length-append}
+use lib.ListN.{length, drop, get_or, set, length-set, length-append}
 use lib.Seq.{drop-cons, set_at}
 use Rattle.rules.specs.declared.Outcome.{Outcome}
 use Rattle.rules.specs.declared.Outcome.TheVariants.{Address, Fault}
@@ -71,3 +71,12 @@ wrote_push before os o w room true x =
           ∙ ap₂ (λ (l : List ℕ) (k : ℕ). (pairs os ++ l) ++ drop k before) (sym (pair_is x)) next
           ∙ ap (λ (l : List ℕ). l ++ drop (2 * length (os ++ (x ∷ []))) before) (sym (pairs_append os (x ∷ [])));
     }
+
+-- one pair more at most, and no number more
+pub pushed_count : (b : Bool) (x : Outcome) (o : Out) → (pushed b x o).count ≤ o.count + 1
+pushed_count true x o = omega arith
+pushed_count false x o = omega arith
+
+pub pushed_size : (b : Bool) (x : Outcome) (o : Out) → length (pushed b x o).buffer ≡ length o.buffer
+pushed_size true x o = simp length-set
+pushed_size false x o = refl

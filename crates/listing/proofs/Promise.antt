@@ -91,7 +91,7 @@ module _ (q : Asked) (b : Lent) (ok : Accepted q b) where
 
 -- each refusal has a number of its own
 same_number : (t u : Refusal) → number_of t ≡ number_of u → t ≡ u
-same_number t u e = ?
+same_number t u e = grind arith
 
 -- two buffers that say which walks are held are equal
 same_bytes : (G : ℕ) → 0 < G → (P : Walk → Type 0) (before x y : List ℕ) → WorkTells G P before x → WorkTells G P before y → x ≡ y

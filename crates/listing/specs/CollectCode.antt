@@ -45,12 +45,18 @@ written x o = out_of (o.count + 1) (set (set o.buffer (2 * o.count) (tag_of x)) 
 abbrev pub pushed : Bool → Outcome → Out → Out
 pushed yes-it-is x o = cond yes-it-is (written x o) o
 
--- the base code of the fault that a step gives; 1 if it gives none
-abbrev pub stop_code : Step → ℕ
-stop_code (Ok w) = 1
-stop_code (Err Absent) = 0
-stop_code (Err Beyond) = 9
-stop_code (Err Complete) = 1
+-- whether a step stops at an absent entry, or at a frame that is none of the guest's
+abbrev pub is_absent : Step → Bool
+is_absent (Ok w) = false
+is_absent (Err Absent) = true
+is_absent (Err Beyond) = false
+is_absent (Err Complete) = false
+
+abbrev pub is_beyond : Step → Bool
+is_beyond (Ok w) = false
+is_beyond (Err Absent) = false
+is_beyond (Err Beyond) = true
+is_beyond (Err Complete) = false
 
 -- the walk of a byte
 abbrev pub walk_at : ℕ → ℕ → Walk
@@ -70,25 +76,21 @@ lacks_at q work k = eqb (get_or work k 0) 1 && not (enough q (k % 8))
 unfoldable pub lacks : ℕ → Request → List ℕ → Bool
 lacks G q work = some (8 * G) (lacks_at q work)
 
--- a held partial walk stops with this base code
-abbrev pub stops_at : ℕ → ℕ → List ℕ → List ℕ → ℕ → ℕ → Bool
-stops_at G page words work base k = eqb (get_or work k 0) 1 && eqb (stop_code (step_in tables64 G page words (walk_at G k))) base
-
--- the base code with which the walk of byte k stops; 1 if it is not held, or does not stop
-abbrev pub stop_at : ℕ → ℕ → List ℕ → List ℕ → ℕ → ℕ
-stop_at G page words work k = cond (eqb (get_or work k 0) 1) (stop_code (step_in tables64 G page words (walk_at G k))) 1
+-- the walk of byte k is held, and stops so
+abbrev pub stops_at : ℕ → ℕ → List ℕ → List ℕ → (Step → Bool) → ℕ → Bool
+stops_at G page words work so k = eqb (get_or work k 0) 1 && so (step_in tables64 G page words (walk_at G k))
 
 -- one walk more
-abbrev pub with_fault : Faults → ℕ → Faults
-with_fault s code = record { absent = s.absent || eqb code 0; beyond = s.beyond || eqb code 9 }
+abbrev pub with_step : Faults → Step → Faults
+with_step s x = record { absent = s.absent || is_absent x; beyond = s.beyond || is_beyond x }
 
-unfoldable pub stops : ℕ → ℕ → List ℕ → List ℕ → ℕ → Bool
-stops G page words work base = some (32 * G) (λ j. stops_at G page words work base (8 * G + j))
+unfoldable pub stops : ℕ → ℕ → List ℕ → List ℕ → (Step → Bool) → Bool
+stops G page words work so = some (32 * G) (λ j. stops_at G page words work so (8 * G + j))
 
 unfoldable pub addresses : ℕ → Request → List ℕ → List ℕ → Out
 addresses G q work buffer = each G (λ f. pushed (serves G q work f) (Address (guest f))) (out_of 0 buffer)
 
 unfoldable pub collected : ℕ → ℕ → Request → List ℕ → List ℕ → List ℕ → Out
 collected G page q words work buffer =
-    pushed (stops G page words work 9) (Fault (9 + q.adds))
-    (pushed (lacks G q work) (Fault (1 + q.adds)) (pushed (stops G page words work 0) (Fault q.adds) (addresses G q work buffer)))
+    pushed (stops G page words work is_beyond) (Fault (9 + q.adds))
+    (pushed (lacks G q work) (Fault (1 + q.adds)) (pushed (stops G page words work is_absent) (Fault q.adds) (addresses G q work buffer)))

@@ -10,11 +10,11 @@ ghost use Rattle.listing.specs.Call.{Lent, asked, lent, sizes_fit, first_refusal
 ghost use Rattle.rules.specs.Numbers.{event_of};
 ghost use Rattle.listing.specs.AnswerCode.{Answerable, Answers};
 ghost use Rattle.listing.specs.ReplayCode.{Reach, replay_of, forgets, applied, replayed};
-ghost use Rattle.listing.specs.CollectCode.{Readable, written, out_of, pushed, stop_code, walk_at, serves_with, serves, lacks_at, lacks, stop_at, with_fault, stops, addresses, collected};
+ghost use Rattle.listing.specs.CollectCode.{Readable, written, out_of, walk_at, serves, lacks, is_absent, is_beyond, with_step, stops, addresses, collected};
 ghost use Rattle.held.specs.FollowCode.{Room};
 
 use held::AskedPage;
-use paging::{Guest, Request, Step, Walk};
+use paging::{Guest, Request, Step, Stop, Walk};
 use rules::{Event, Kind, Outcome, Question, Refusal};
 
 fn forgotten(at: AskedPage, a: u64) -> usize
@@ -33,17 +33,23 @@ fn apply(words: &mut [u64], work: &mut [u8], at: AskedPage, p: u64, cr3: u64, e:
     requires { Room at.frames words.old work.old × (cr3 < at.frames) × Reach at.frames e }
     ensures { replay_of result words.new work.new ≡ applied at.frames p at.page e (replay_of cr3 words.old work.old) }
 {
-    match Kind::try_from(e.kind) {
-        Ok(Kind::Store) => {
-            words[e.a as usize] = e.b;
-            held::reread_word(words, work, at, e.a);
-            cr3
-        }
-        Ok(Kind::Invlpg) if e.proc == p => {
+    let Ok(kind) = Kind::try_from(e.kind) else {
+        return cr3;
+    };
+    if kind == Kind::Store {
+        words[e.a as usize] = e.b;
+        held::reread_word(words, work, at, e.a);
+        return cr3;
+    }
+    if e.proc != p {
+        return cr3;
+    }
+    match kind {
+        Kind::Invlpg => {
             held::restart(words, work, at, forgotten(at, e.a), Guest(cr3));
             cr3
         }
-        Ok(Kind::Cr3Write) if e.proc == p => {
+        Kind::Cr3Write => {
             held::restart(words, work, at, 0, Guest(e.a));
             e.a
         }
@@ -92,17 +98,6 @@ fn lacks(work: &[u8], frames: u64, q: Request) -> bool
         && !paging::has_enough(q, k as u64 % 8))
 }
 
-fn stop_code(s: Step) -> u64
-    ensures { result ≡ stop_code s }
-{
-    match s {
-        Step::On(_) => 1,
-        Step::Absent => 0,
-        Step::Beyond => 9,
-        Step::Complete => 1,
-    }
-}
-
 fn walk_at(frames: u64, k: u64) -> Walk
     requires { 0 < frames }
     ensures { result ≡ walk_at frames k }
@@ -114,18 +109,6 @@ fn walk_at(frames: u64, k: u64) -> Walk
     }
 }
 
-// The base code of the fault that the walk of byte k gives, if it is held; else 1, which no fault of an entry has.
-fn stop_at(words: &[u64], work: &[u8], at: AskedPage, k: usize) -> u64
-    requires { Room at.frames words.now work.now × (0 < at.frames) × (k < work_bytes at.frames) }
-    ensures { result ≡ stop_at at.frames at.page words.now work.now k }
-{
-    if work[k] != 1 {
-        return 1;
-    }
-    let s = held::next(words, at, walk_at(at.frames, k as u64));
-    stop_code(s)
-}
-
 // Which faults of entries the held partial walks give.
 #[derive(Clone, Copy)]
 struct Faults {
@@ -133,38 +116,41 @@ struct Faults {
     beyond: bool,
 }
 
-fn with_fault(s: Faults, code: u64) -> Faults
-    ensures { result ≡ with_fault s code }
-{
-    if code == 0 {
-        return Faults {
-            absent: true,
-            beyond: s.beyond,
-        };
+impl Faults {
+    fn with(self, step: Step) -> Faults
+        ensures { result ≡ with_step self step }
+    {
+        match step {
+            Err(Stop::Absent) => Faults {
+                absent: true,
+                ..self
+            },
+            Err(Stop::Beyond) => Faults {
+                beyond: true,
+                ..self
+            },
+            _ => self,
+        }
     }
-    if code == 9 {
-        return Faults {
-            absent: s.absent,
-            beyond: true,
-        };
-    }
-    s
 }
 
 fn find_faults(words: &[u64], work: &[u8], at: AskedPage) -> Faults
     requires { Room at.frames words.now work.now × (0 < at.frames) }
-    ensures { (result.absent ≡ stops at.frames at.page words.now work.now 0) × (result.beyond ≡ stops at.frames at.page words.now work.now 9) }
+    ensures { (result.absent ≡ stops at.frames at.page words.now work.now is_absent) × (result.beyond ≡ stops at.frames at.page words.now work.now is_beyond) }
 {
     let first = (8 * at.frames) as usize;
-    let n = (32 * at.frames) as usize;
-    let mut s = Faults {
+    let end = (40 * at.frames) as usize;
+    let mut faults = Faults {
         absent: false,
         beyond: false,
     };
-    for j in 0..n {
-        s = with_fault(s, stop_at(words, work, at, first + j));
+    for (j, byte) in work[first..end].iter().enumerate() {
+        if *byte == 1 {
+            let w = walk_at(at.frames, (first + j) as u64);
+            faults = faults.with(held::next(words, at, w));
+        }
     }
-    s
+    faults
 }
 
 // The outcomes that were written so far, and the buffer that they stand in.
@@ -178,7 +164,8 @@ impl Outcomes<'_> {
     // Writes one pair more.
     fn push(&mut self, outcome: Outcome)
         requires { 2 * self.old.count + 1 < length self.old.buffer.now }
-        ensures { out_of self.new.count self.new.buffer.now ≡ written outcome (out_of self.old.count self.old.buffer.now) }
+        ensures same_reference { self.new.buffer.ghost_name ≡ self.old.buffer.ghost_name }
+        ensures pair { out_of self.new.count self.new.buffer.now ≡ written outcome (out_of self.old.count self.old.buffer.now) }
     {
         let (tag, value) = match outcome {
             Outcome::Address(f) => (0, f.0),
@@ -194,7 +181,10 @@ impl Outcomes<'_> {
 // The addresses, by rising frame.
 fn addresses(work: &[u8], outcomes: &mut Outcomes, frames: u64, q: Request)
     requires { Readable frames q work.now × (outcomes.old.count ≡ 0) × (2 * frames ≤ length outcomes.old.buffer.now) }
-    ensures { (out_of outcomes.new.count outcomes.new.buffer.now ≡ addresses frames q work.now outcomes.old.buffer.now) × (outcomes.new.count ≤ frames) }
+    ensures same_reference { outcomes.new.buffer.ghost_name ≡ outcomes.old.buffer.ghost_name }
+    ensures pairs { out_of outcomes.new.count outcomes.new.buffer.now ≡ addresses frames q work.now outcomes.old.buffer.now }
+    ensures few { outcomes.new.count ≤ frames }
+    ensures size { length outcomes.new.buffer.now ≡ length outcomes.old.buffer.now }
 {
     for f in 0..frames {
         if serves(work, frames, q, f) {
