@@ -37,8 +37,8 @@ third : (c : Joined-faults-2) → Next c.find_faults-faults.result.beyond (Fault
 third c = elim c.if-faults-2.branch [ then-faults-2 w ↦ next w.outcomes-is (sym w.if-faults-2.true) w.push-then-faults-2.ensures.same_reference w.push-then-faults-2.ensures.pair | else-faults-2 w ↦ next w.outcomes-is (sym w.if-faults-2.false) refl refl ]
 
 -- the caller's buffer is the one that was written
-kept : {x : List ℕ} {s : Outcomes} {o : Out} → x ≡ s.buffer.now → out s ≡ o → out_of s.count x ≡ o
-kept {s = s} e h = ap (out_of s.count) e ∙ h
+kept : {x : List ℕ} (s : Outcomes) {o : Out} → x ≡ s.buffer.now → out s ≡ o → out_of s.count x ≡ o
+kept s e h = ap (out_of s.count) e ∙ h
 
 pub push-requires : goal.push-requires
 push-requires c = omega (arith, c.addresses.ensures.few, c.addresses.ensures.size, c.requires.4)
@@ -62,7 +62,7 @@ returns c =
     let s₃ = third (goal.at.returns c).Joined-faults-2 in
     let same : c.if-faults-2.outcomes.buffer.ghost_name ≡ c.addresses.new.outcomes.buffer.ghost_name = s₃.same_reference ∙ s₂.same_reference ∙ s₁.same_reference in
     let own = same ∙ c.addresses.ensures.same_reference in
-    kept {s = c.if-faults-2.outcomes} (search rules)
+    kept c.if-faults-2.outcomes (search rules)
     (s₃.pairs ∙ ap (λ (b : Bool). pushed b (Fault (9 + c.args.q.adds)) (out c.if-lacks.outcomes)) c.find_faults-faults.ensures.1
     ∙ ap (pushed _ (Fault (9 + c.args.q.adds))) (s₂.pairs ∙ ap (λ (b : Bool). pushed b (Fault (1 + c.args.q.adds)) (out c.if-faults.outcomes)) c.lacks.ensures
     ∙ ap (pushed _ (Fault (1 + c.args.q.adds))) (s₁.pairs ∙ ap (λ (b : Bool). pushed b (Fault c.args.q.adds) (out c.addresses.new.outcomes)) c.find_faults-faults.ensures.0
