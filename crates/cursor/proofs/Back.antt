@@ -8,7 +8,7 @@ use native.Mathlib.Omega.{arith}
 use lib.Dec.{eqb, ltb}
 use lib.ListN.{length, drop, get_or, length-append, get_or-append}
 use borrow.Author.Tests.{lt-ltb, ne_eqb, ltb-true, ltb-false}
-use Rattle.cursor.specs.declared.Next.TheVariants.{Number, Bad}
+use Rattle.std.specs.Prelude.{Ok, Err}
 use Rattle.cursor.specs.Text.{line_at, cursor_at, blanks, past_blanks, is_digit, run, value_of, digits_in, digits_of, leading_zero, is_number, next_at}
 use Rattle.cursor.proofs.DigitRuns.{digit_yes}
 use Rattle.cursor.proofs.Decimals.{value_digits}
@@ -92,9 +92,9 @@ module _ (text : List ℕ) (at n : ℕ) (rest : List ℕ) where
 
   -- WHERE THE DIGITS OF A NUMBER FOLLOW, IT IS THE NEXT NUMBER
   pub next_digits : n < 2 ^ 64 → Stops rest → (k : ℕ) → past_blanks text at ≡ k → drop k text ≡ digits_of n ++ rest
-      → next_at text at ≡ Number n (cursor_at text (k + length (digits_of n)))
+      → next_at text at ≡ Ok (record { value = n; after = cursor_at text (k + length (digits_of n)) })
   next_digits h s k p d =
       let r : run (drop (past_blanks text at) text) ≡ digits_of n =
       ap (λ (j : ℕ). run (drop j text)) p ∙ ap run d ∙ run_digits (digits_of n) rest (all_in n n (le_refl n)) s in
-      ap₂ (λ (j : ℕ) (l : List ℕ). cond (is_number l) (Number (value_of l) (cursor_at text (j + length l))) (Bad (line_at text j))) p r
-      ∙ simp (is_number_lem n h) (ap (λ (v : ℕ). Number v (cursor_at text (k + length (digits_of n)))) (value_digits n))
+      ap₂ (λ (j : ℕ) (l : List ℕ). cond (is_number l) (Ok (record { value = value_of l; after = cursor_at text (j + length l) })) (Err (record { line = line_at text j }))) p r
+      ∙ simp (is_number_lem n h) (ap (λ (v : ℕ). Ok (record { value = v; after = cursor_at text (k + length (digits_of n)) })) (value_digits n))

@@ -10,8 +10,10 @@ use lib.ListN.{length, drop, get_or, drop_of_length-le, length-drop}
 use lib.Seq.{get_or-drop}
 use borrow.Author.Tests.{eq-eqb, ne_eqb, le-leb, lt-leb, lt-ltb, le-ltb, ltb-true}
 use Rattle.cursor.specs.declared.Cursor.{Cursor}
-use Rattle.cursor.specs.declared.Digits.TheVariants.{Value, Big}
-use Rattle.cursor.specs.declared.Next.TheVariants.{Number, Bad}
+use Rattle.cursor.specs.declared.Digits.{Digits}
+use Rattle.cursor.specs.declared.NoNumber.{NoNumber}
+use Rattle.cursor.specs.declared.Number.{Number}
+use Rattle.std.specs.Prelude.{Some, None, Ok, Err}
 use Rattle.cursor.specs.Text.{line_at, cursor_at, past_blanks, is_digit, run, value_from, value_of, leading_zero, is_number, next_at}
 use Rattle.cursor.specs.CursorCode.{Stands, digits_at}
 use Rattle.cursor.proofs.Lines.{left, line_same, blanks_few}
@@ -54,28 +56,32 @@ grows n (x ∷ xs) = le_trans (omega arith) (grows (n * 10 + (x - 48)) xs)
 
 -- the answer of a run whose value and end are known
 module _ (s : List ℕ) (from : ℕ) where
-  pub digits_are : (v e : ℕ) → value_of (run (drop from s)) ≡ v → from + length (run (drop from s)) ≡ e → v < 2 ^ 64 → Value v e ≡ digits_at s from
-  digits_are v e p q h = sym (simp (lt-ltb (value_of (run (drop from s))) (2 ^ 64) (omega arith)) (ap₂ Value p q))
+  pub digits_are : (d : Digits) → value_of (run (drop from s)) ≡ d.value → from + length (run (drop from s)) ≡ d.end → d.value < 2 ^ 64 → Some d ≡ digits_at s from
+  digits_are d p q h =
+      sym (simp (lt-ltb (value_of (run (drop from s))) (2 ^ 64) (omega arith)) (ap₂ (λ (v e : ℕ). Some (record { value = v; end = e })) p q))
 
-  pub digits_big : 2 ^ 64 ≤ value_of (run (drop from s)) → Big ≡ digits_at s from
+  pub digits_big : 2 ^ 64 ≤ value_of (run (drop from s)) → None ≡ digits_at s from
   digits_big h = sym (simp (le-ltb (value_of (run (drop from s))) (2 ^ 64) h))
 
 -- what an answer says of the run
-value_cases : (t : Bool) (v e w n : ℕ) → Value w n ≡ cond t (Value v e) Big → (t ≡ true) × (v ≡ w) × (e ≡ n)
-value_cases true v e w n q = (refl, cc, cc)
-value_cases false v e w n q = let z : ◌≡◌ {A = ℕ} 0 1 = cc in absurd (omega arith)
+value_cases : (t : Bool) (d k : Digits) → Some d ≡ cond t (Some k) None → (t ≡ true) × (k ≡ d)
+value_cases true d k q = (refl, cc)
+value_cases false d k q = cc
 
-big_cases : (t : Bool) (v e : ℕ) → Big ≡ cond t (Value v e) Big → t ≡ false
-big_cases true v e q = let z : ◌≡◌ {A = ℕ} 0 1 = cc in absurd (omega arith)
-big_cases false v e q = refl
+big_cases : (t : Bool) (k : Digits) → None ≡ cond t (Some k) None → t ≡ false
+big_cases true k q = cc
+big_cases false k q = refl
 
 module _ (s : List ℕ) (from : ℕ) where
-  pub value_told : (v e : ℕ) → Value v e ≡ digits_at s from
-      → (ltb (value_of (run (drop from s))) (2 ^ 64) ≡ true) × (value_of (run (drop from s)) ≡ v) × (from + length (run (drop from s)) ≡ e)
-  value_told v e q = value_cases (ltb (value_of (run (drop from s))) (2 ^ 64)) (value_of (run (drop from s))) (from + length (run (drop from s))) v e q
+  pub value_told : {d : Digits} → Some d ≡ digits_at s from
+      → (ltb (value_of (run (drop from s))) (2 ^ 64) ≡ true) × (value_of (run (drop from s)) ≡ d.value) × (from + length (run (drop from s)) ≡ d.end)
+  value_told {d} q =
+      let w = value_cases (ltb (value_of (run (drop from s))) (2 ^ 64)) d (record { value = value_of (run (drop from s)); end = from + length (run (drop from s)) }) q in
+      (w.0, ap (λ (k : Digits). k.value) w.1, ap (λ (k : Digits). k.end) w.1)
 
-  pub big_told : Big ≡ digits_at s from → ltb (value_of (run (drop from s))) (2 ^ 64) ≡ false
-  big_told q = big_cases (ltb (value_of (run (drop from s))) (2 ^ 64)) (value_of (run (drop from s))) (from + length (run (drop from s))) q
+  pub big_told : None ≡ digits_at s from → ltb (value_of (run (drop from s))) (2 ^ 64) ≡ false
+  big_told q =
+      big_cases (ltb (value_of (run (drop from s))) (2 ^ 64)) (record { value = value_of (run (drop from s)); end = from + length (run (drop from s)) }) q
 
 line_digit : (s : List ℕ) (at : ℕ) (t : Bool) (x : ℕ) (xs : List ℕ) → at < length s → get_or s at 0 ≡ x → is_digit x ≡ t
     → line_at s (at + 1 + length xs) ≡ line_at s (at + 1) → line_at s (at + length (cond t (x ∷ xs) [])) ≡ line_at s at
@@ -129,16 +135,16 @@ module _ (s : List ℕ) (at : ℕ) where
 
 -- the answers, from the cursor past the blanks
 module _ (s : List ℕ) (at : ℕ) {here : Cursor} (is : here ≡ cursor_at s (past_blanks s at)) where
-  pub none_here : is_number (run (drop here.at s)) ≡ false → Bad here.line ≡ next_at s at
+  pub none_here : is_number (run (drop here.at s)) ≡ false → Err (record { line = here.line }) ≡ next_at s at
   none_here =
-      subst⁻¹ (λ (h : Cursor). is_number (run (drop h.at s)) ≡ false → Bad h.line ≡ next_at s at) is (λ n. sym (simp n))
+      subst⁻¹ (λ (h : Cursor). is_number (run (drop h.at s)) ≡ false → Err (record { line = h.line }) ≡ next_at s at) is (λ n. sym (simp n))
 
   pub number_here : {v e : ℕ} → is_number (run (drop here.at s)) ≡ true → value_of (run (drop here.at s)) ≡ v → here.at + length (run (drop here.at s)) ≡ e
-      → Number v (record { at = e; line = here.line }) ≡ next_at s at
+      → Ok (record { value = v; after = record { at = e; line = here.line } }) ≡ next_at s at
   number_here {v} {e} =
       subst⁻¹ (λ (h : Cursor). is_number (run (drop h.at s)) ≡ true → value_of (run (drop h.at s)) ≡ v → h.at + length (run (drop h.at s)) ≡ e
-      → Number v (record { at = e; line = h.line }) ≡ next_at s at) is
-      (λ n p q. sym (simp n (ap₂ Number p (ap₂ (λ (a l : ℕ). record { at = a; line = l }) q (line-run s (drop (past_blanks s at) s) (past_blanks s at) refl)))))
+      → Ok (record { value = v; after = record { at = e; line = h.line } }) ≡ next_at s at) is
+      (λ n p q. sym (simp n (ap₂ (λ (w : ℕ) (c : Cursor). Ok (record { value = w; after = c })) p (ap₂ (λ (a l : ℕ). record { at = a; line = l }) q (line-run s (drop (past_blanks s at) s) (past_blanks s at) refl)))))
 
   pub here_inside : at ≤ length s → here.at ≤ length s
   here_inside h = subst⁻¹ (λ (k : Cursor). k.at ≤ length s) is (omega (arith, blanks_few (drop at s), length-drop at s))
@@ -152,44 +158,39 @@ unfolding run
 run_few [] = omega arith
 run_few (x ∷ xs) = run_if (is_digit x) x (run xs) (length xs) (run_few xs)
 
--- the cursor after a number is a cursor of the text
-next_cases : (t : Bool) (w line : ℕ) {v : ℕ} {c d : Cursor} → Number v c ≡ cond t (Number w d) (Bad line) → c ≡ d
-next_cases true w line q = cc
-next_cases false w line q = let z : ◌≡◌ {A = ℕ} 0 1 = cc in absurd (omega arith)
+-- what an answer says of the next number
+module _ (t : Bool) (m : Number) (f : NoNumber) where
+  number_cases : (n : Number) → Ok n ≡ cond t (Ok m) (Err f) → (t ≡ true) × (n ≡ m)
+  number_cases n q = elim t as (λ (b : Bool). Ok n ≡ cond b (Ok m) (Err f) → (b ≡ true) × (n ≡ m)) [ true ↦ λ q. (refl, cc) | false ↦ λ q. cc ] q
 
-pub next-line : (s : List ℕ) (at : ℕ) {v : ℕ} {c : Cursor} → Number v c ≡ next_at s at → c.line ≡ line_at s (past_blanks s at)
-next-line s at {v} {c} q =
-    let here = past_blanks s at in
-    let e : c ≡ cursor_at s (here + length (run (drop here s))) =
-    next_cases (is_number (run (drop here s))) (value_of (run (drop here s))) (line_at s here) q in
-    ap (λ (k : Cursor). k.line) e ∙ line-run s (drop here s) here refl
+  bad_cases : (e : NoNumber) → Err e ≡ cond t (Ok m) (Err f) → e ≡ f
+  bad_cases e q = elim t as (λ (b : Bool). Err e ≡ cond b (Ok m) (Err f) → e ≡ f) [ true ↦ λ q. cc | false ↦ λ q. cc ] q
 
-small_cases : (t : Bool) (w line : ℕ) (d : Cursor) {v : ℕ} {c : Cursor} → (t ≡ true → w < 2 ^ 64) → Number v c ≡ cond t (Number w d) (Bad line) → v < 2 ^ 64
-small_cases true w line d {v} h q = let e : v ≡ w = cc in omega (arith, h refl)
-small_cases false w line d h q = let z : ◌≡◌ {A = ℕ} 0 1 = cc in absurd (omega arith)
+module _ (s : List ℕ) (at : ℕ) where
+  number_is : {n : Number} → Ok n ≡ next_at s at
+      → let here = past_blanks s at in let digits = run (drop here s) in
+      (is_number digits ≡ true) × (n ≡ record { value = value_of digits; after = cursor_at s (here + length digits) })
+  number_is {n} q = number_cases _ _ _ n q
 
-pub next_small : (s : List ℕ) (at : ℕ) {v : ℕ} {c : Cursor} → Number v c ≡ next_at s at → v < 2 ^ 64
-next_small s at q =
-    let digits = run (drop (past_blanks s at) s) in
-    small_cases (is_number digits) (value_of digits) (line_at s (past_blanks s at)) (cursor_at s (past_blanks s at + length digits))
-    (λ t. ltb-true (value_of digits) (2 ^ 64) (last_true (ltb 0 (length digits) && not (leading_zero digits)) (ltb (value_of digits) (2 ^ 64)) t)) q
-  where
-    last_true : (a b : Bool) → (a && b) ≡ true → b ≡ true
-    last_true true b e = e
-    last_true false b e = absurd (false≢true e)
+  pub next-line : {n : Number} → Ok n ≡ next_at s at → n.after.line ≡ line_at s (past_blanks s at)
+  next-line q = ap (λ (k : Number). k.after.line) (number_is q).1 ∙ line-run s (drop (past_blanks s at) s) (past_blanks s at) refl
 
-bad_cases : (t : Bool) (v line : ℕ) (c : Cursor) {l : ℕ} → Bad l ≡ cond t (Number v c) (Bad line) → l ≡ line
-bad_cases true v line c q = let z : ◌≡◌ {A = ℕ} 0 1 = cc in absurd (omega arith)
-bad_cases false v line c q = cc
+  pub next_small : {n : Number} → Ok n ≡ next_at s at → n.value < 2 ^ 64
+  next_small q =
+      let digits = run (drop (past_blanks s at) s) in
+      let w = number_is q in
+      omega (arith, ap (λ (k : Number). k.value) w.1, ltb-true (value_of digits) (2 ^ 64) (last_true (ltb 0 (length digits) && not (leading_zero digits)) (ltb (value_of digits) (2 ^ 64)) w.0))
+    where
+      last_true : (a b : Bool) → (a && b) ≡ true → b ≡ true
+      last_true true b e = e
+      last_true false b e = absurd (false≢true e)
 
-pub bad_line : (s : List ℕ) (at : ℕ) {line : ℕ} → Bad line ≡ next_at s at → line ≡ line_at s (past_blanks s at)
-bad_line s at q =
-    let here = past_blanks s at in
-    bad_cases (is_number (run (drop here s))) (value_of (run (drop here s))) (line_at s here) (cursor_at s (here + length (run (drop here s)))) q
+  pub bad_line : {e : NoNumber} → Err e ≡ next_at s at → e.line ≡ line_at s (past_blanks s at)
+  bad_line {e} q = ap (λ (f : NoNumber). f.line) (bad_cases _ _ _ e q)
 
-pub next-stands : (s : List ℕ) (at : ℕ) {v : ℕ} {c : Cursor} → at ≤ length s → Number v c ≡ next_at s at → Stands s c
-next-stands s at {v} {c} h q =
-    let here = past_blanks s at in
-    let e : c ≡ cursor_at s (here + length (run (drop here s))) = next_cases (is_number (run (drop here s))) (value_of (run (drop here s))) (line_at s here) q in
-    subst⁻¹ (Stands s) e
-    (record { inside = omega (arith, blanks_few (drop at s), length-drop at s, run_few (drop here s), length-drop here s); lined = refl })
+  -- the cursor after a number is a cursor of the text
+  pub next-stands : {n : Number} → at ≤ length s → Ok n ≡ next_at s at → Stands s n.after
+  next-stands h q =
+      let here = past_blanks s at in
+      subst⁻¹ (λ (k : Number). Stands s k.after) (number_is q).1
+      (record { inside = omega (arith, blanks_few (drop at s), length-drop at s, run_few (drop here s), length-drop here s); lined = refl })

@@ -2,14 +2,28 @@
 use mathlib.Core.Path.{◌≡◌, sym, ap, ◌∙◌}
 use mathlib.Core.Bool.{Bool, true, false, cond, ◌||◌}
 use mathlib.Core.List.{List, [], ◌∷◌, ◌++◌}
-use Prim.Native.Nat.{ℕ, suc, ◌+◌, ◌≤◌, ◌<◌}
+use Prim.Native.Nat.{ℕ, suc, ◌+◌, ◌-◌, ◌≤◌, ◌<◌}
 use native.Mathlib.Numerals.{add-one}
 use native.Mathlib.Omega.{arith}
 use lib.Dec.{eqb}
-use lib.ListN.{length, take, drop, get_or, drop_of_length-le, length-take}
-use lib.Seq.{drop-cons, take-suc}
+use lib.ListN.{length, take, drop, get_or, drop_of_length-le, length-take, length-drop}
+use lib.Seq.{drop-cons, take-suc, get_or-take, get_or-drop}
 use borrow.Author.Tests.{eq-eqb, ne_eqb}
 use Rattle.cursor.specs.Text.{feeds, line_at, blanks, past_blanks}
+
+-- the slice `&s[from..]`, byte by byte
+abbrev pub rest : List ℕ → ℕ → List ℕ
+rest s from = take (length s - from) (drop from s)
+
+module _ (s : List ℕ) (from i : ℕ) where
+  pub rest_inside : i < length (rest s from) → from + i < length s
+  rest_inside h = omega (arith, length-take (length s - from) (drop from s), length-drop from s)
+
+  pub rest_over : length (rest s from) ≤ i → length s ≤ from + i
+  rest_over h = omega (arith, length-take (length s - from) (drop from s), length-drop from s)
+
+  pub rest_byte : i < length (rest s from) → get_or (rest s from) i 0 ≡ get_or s (from + i) 0
+  rest_byte h = get_or-take (length s - from) (drop from s) i 0 (omega (arith, length-take (length s - from) (drop from s))) ∙ get_or-drop from s i 0
 
 pub left : (s : List ℕ) (at : ℕ) → at < length s → drop at s ≡ get_or s at 0 ∷ drop (at + 1) s
 left s at h = drop-cons s at 0 h ∙ ap (λ (n : ℕ). get_or s at 0 ∷ drop n s) (sym (add-one at))

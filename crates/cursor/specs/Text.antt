@@ -1,9 +1,9 @@
 -- "Decimal numbers parted by spaces and line feeds, no other bytes." What stands at a place of a text, and on which line.
 -- A text is the list of its bytes; a place is the number of bytes before it.
-use Rattle.std.specs.Prelude.{Bool, cond, not, ◌&&◌, ◌||◌, List, [], ◌∷◌, ◌++◌, ℕ, zero, suc, ◌+◌, ◌-◌, ◌*◌, ◌/◌, ◌%◌, ◌^◌, eqb, ltb, leb, length, take, drop, get_or}
+use Rattle.std.specs.Prelude.{Bool, cond, not, ◌&&◌, ◌||◌, List, [], ◌∷◌, ◌++◌, ℕ, zero, suc, ◌+◌, ◌-◌, ◌*◌, ◌/◌, ◌%◌, ◌^◌, eqb, ltb, leb, length, take, drop, get_or, Result, Ok, Err}
 use Rattle.cursor.specs.declared.Cursor.{Cursor}
-use Rattle.cursor.specs.declared.Next.{Next}
-use Rattle.cursor.specs.declared.Next.TheVariants.{Number, Bad}
+use Rattle.cursor.specs.declared.NoNumber.{NoNumber}
+use Rattle.cursor.specs.declared.Number.{Number}
 
 unfoldable pub feeds : List ℕ → ℕ
 feeds [] = 0
@@ -62,8 +62,9 @@ is_number digits = ltb 0 (length digits) && not (leading_zero digits) && ltb (va
 
 -- The next number from a place on, judged at its first byte.
 -- "a bad byte's place is its own, any other fault's is the first byte of the number"; "a missing number is at the end"
-abbrev pub next_at : List ℕ → ℕ → Next
+abbrev pub next_at : List ℕ → ℕ → Result Number NoNumber
 next_at text at =
     let here = past_blanks text at in
     let digits = run (drop here text) in
-    cond (is_number digits) (Number (value_of digits) (cursor_at text (here + length digits))) (Bad (line_at text here))
+    cond (is_number digits) (Ok (record { value = value_of digits; after = cursor_at text (here + length digits) }))
+    (Err (record { line = line_at text here }))

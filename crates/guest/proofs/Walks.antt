@@ -6,8 +6,7 @@ use Rattle.paging.specs.declared.Guest.{Guest}
 use Rattle.paging.specs.declared.Walk.{Walk}
 use Rattle.paging.specs.Layout.{Layout, get, put, index, with_a}
 use Rattle.paging.specs.Walk.{Step, step}
-use Rattle.guest.specs.declared.Walked.TheVariants.{Whole}
-use Rattle.guest.specs.GuestWalk.{GuestWalk, guest_walk, by_step, walk_from}
+use Rattle.guest.specs.GuestWalk.{GuestWalk, guest_walk, whole, by_step, walk_from}
 
 module _ (Y : Layout) (G page : ℕ) (words : List ℕ) (last : Guest) (w : Walk) (n : ℕ) where
   -- the entry that the walk has come to
@@ -25,6 +24,6 @@ module _ (Y : Layout) (G page : ℕ) (words : List ℕ) (last : Guest) (w : Walk
       ∙ ap (λ (x : ℕ). by_step words last w (on x) (step Y G w x)) ee
       ∙ sym (ap (λ (k : ℕ). walk_from Y G page k words last w) q)
 
-  pub walk_end : n ≡ 0 → guest_walk words (Whole last w) ≡ walk_from Y G page n words last w
+  pub walk_end : n ≡ 0 → guest_walk words (whole last w) ≡ walk_from Y G page n words last w
   unfolding walk_from
   walk_end q = sym (ap (λ (k : ℕ). walk_from Y G page k words last w) q)

@@ -1,34 +1,41 @@
 -- "Else the guest tables are walked": each entry that the walk reads, A in those that it extends from, D after a write.
-use Rattle.std.specs.Prelude.{cond, List, ℕ, zero, suc, Ok, Err}
+use Rattle.std.specs.Prelude.{cond, List, ℕ, zero, suc, Result, Ok, Err}
 use Rattle.paging.specs.declared.Guest.{Guest}
 use Rattle.paging.specs.declared.Walk.{Walk}
+use Rattle.paging.specs.declared.Stop.{Stop}
 use Rattle.paging.specs.declared.Stop.TheVariants.{Absent, Beyond, Complete}
 use Rattle.paging.specs.declared.Request.{Request}
 use Rattle.paging.specs.Layout.{Layout, get, put, index, with_a, with_d}
 use Rattle.paging.specs.Walk.{Step, start, step}
 use Rattle.paging.specs.Request.{is_write}
 use Rattle.guest.specs.declared.Walked.{Walked}
-use Rattle.guest.specs.declared.Walked.TheVariants.{Whole, Fault}
+
+-- how a walk ended: whole, with the last table it read; or stopped
+abbrev pub Ended : Type 0
+Ended = Result Walked Stop
+
+abbrev pub whole : Guest → Walk → Ended
+whole last w = Ok (record { last = last; walk = w })
 
 -- the guest's words after a walk of its tables, and how the walk ended
 pub record GuestWalk : Type 0 where
   pub words : List ℕ
-  pub ended : Walked
+  pub ended : Ended
 
-abbrev pub guest_walk : List ℕ → Walked → GuestWalk
+abbrev pub guest_walk : List ℕ → Ended → GuestWalk
 guest_walk w r = record { words = w; ended = r }
 
 -- how a walk ends, or goes on, by what it does at its entry
 abbrev pub by_step : List ℕ → Guest → Walk → (Walk → GuestWalk) → Step → GuestWalk
 by_step words last w on (Ok w') = on w'
-by_step words last w on (Err Absent) = guest_walk words (Fault 0)
-by_step words last w on (Err Beyond) = guest_walk words (Fault 9)
-by_step words last w on (Err Complete) = guest_walk words (Whole last w)
+by_step words last w on (Err Absent) = guest_walk words (Err Absent)
+by_step words last w on (Err Beyond) = guest_walk words (Err Beyond)
+by_step words last w on (Err Complete) = guest_walk words (whole last w)
 
 module _ (Y : Layout) (G : ℕ) (page : ℕ) where
   -- "Each entry extended from gets A." Here with n entries left to read.
   unfoldable pub walk_from : ℕ → List ℕ → Guest → Walk → GuestWalk
-  walk_from zero words last w = guest_walk words (Whole last w)
+  walk_from zero words last w = guest_walk words (whole last w)
   walk_from (suc n) words last w =
       let i = index Y page w.level in
       let e = get Y words w.frame.0 i in

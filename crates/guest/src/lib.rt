@@ -5,13 +5,13 @@ ghost use Rattle.std.specs.Prelude.{◌≡◌, ◌^◌, ◌<◌, ◌≤◌};
 ghost use Rattle.paging.specs.Layout.{tables64};
 ghost use Rattle.guest.specs.GuestWalk.{guest_walk, walk_guest, guest_entry, dirtied};
 
-use paging::{Guest, Request, Step, Walk};
+use paging::{Guest, Request, Stop, Walk};
 
-// How a walk of the guest's tables ended: whole, with the last table it read; or with a fault's base code.
+// A walk of the guest's tables that came to its end: the last table it read, and where it stands.
 #[derive(Clone, Copy)]
-pub enum Walked {
-    Whole(Guest, Walk),
-    Fault(u64),
+pub struct Walked {
+    pub last: Guest,
+    pub walk: Walk,
 }
 
 // The entry at a level of the walk of a page, in the frame that the walk stands on.
@@ -24,28 +24,22 @@ pub fn guest_entry(words: &[u64], page: u64, level: u64, g: Guest) -> u64
 }
 
 // Each entry that the walk extends from gets A.
-pub fn walk_guest(words: &mut [u64], frames: u64, cr3: Guest, page: u64) -> Walked
+pub fn walk_guest(words: &mut [u64], frames: u64, cr3: Guest, page: u64) -> Result<Walked, Stop>
     requires { (frames ≤ 256) × (cr3.0 < 2 ^ 40) }
     ensures { guest_walk words.new result ≡ walk_guest tables64 frames page words.old cr3 }
 {
     let mut last = cr3;
     let mut w = Walk::start(cr3);
-    while w.level > 0 {
+    for level in (1..5).rev() {
         let f = w.frame;
-        let i = paging::index_of(page, w.level);
+        let i = paging::index_of(page, level);
         let e = paging::entry_at(words, f.0, i);
-        match w.step(e, frames) {
-            Step::On(next) => {
-                paging::write_entry(words, f.0, i, paging::set_accessed(e));
-                last = f;
-                w = next;
-            }
-            Step::Absent => return Walked::Fault(0),
-            Step::Beyond => return Walked::Fault(9),
-            Step::Complete => return Walked::Whole(last, w),
-        }
+        let next = w.step(e, frames)?;
+        paging::write_entry(words, f.0, i, paging::set_accessed(e));
+        last = f;
+        w = next;
     }
-    Walked::Whole(last, w)
+    Ok(Walked { last, walk: w })
 }
 
 // A request that needs W sets D in the last entry.

@@ -1,4 +1,5 @@
 -- The ways out of an access, and that each keeps the state rules.
+use Rattle.std.specs.Prelude.{Ok, Err}
 use mathlib.Core.Path.{◌≡◌, refl}
 use mathlib.Core.Bool.{Bool, true, false, cond, ◌&&◌}
 use mathlib.Core.List.{List}
@@ -6,13 +7,14 @@ use mathlib.Core.Logic.{inr}
 use Prim.Native.Nat.{ℕ, ◌+◌, ◌≤◌, ◌<◌}
 use lib.Dec.{ltb}
 use borrow.Author.Tests.{ltb-true}
+use Rattle.std.specs.Prelude.{Ok}
 use Rattle.paging.specs.declared.Guest.{Guest}
 use Rattle.paging.specs.declared.Walk.{Walk}
 use Rattle.paging.specs.declared.Request.{Request}
 use Rattle.paging.specs.Frame.{guest, host, host_of, host_address}
 use Rattle.paging.specs.Layout.{Layout, index, page_of, frame_of, rights_of, is_present, get, put, with_d}
 use Rattle.paging.specs.Request.{request_of, enough, is_write}
-use Rattle.paging.specs.Walk.{meet, start}
+use Rattle.paging.specs.Walk.{base_of, meet, start}
 use Rattle.paging.specs.Sound.{Sound}
 use Rattle.paging.proofs.Indices.{index_small}
 use Rattle.paging.proofs.Numbers.{first_passes}
@@ -27,11 +29,10 @@ use Rattle.keeps.proofs.WalkReads.{walk_reads}
 use Rattle.keeps.proofs.RightStates.{Mapped, RightState, Reshaped, words_right, reshaped_right}
 use Rattle.keeps.proofs.Moves.{page_small}
 use Rattle.keeps.proofs.Filled.{Fills, fills, fill_reshapes}
-use Rattle.guest.specs.declared.Walked.{Walked}
-use Rattle.guest.specs.declared.Walked.TheVariants.{Whole, Fault}
+use Rattle.paging.specs.declared.Stop.{Stop}
 use Rattle.slots.specs.Slots.{slot_count, place_in, slot_serves, serving_slot}
-use Rattle.guest.specs.GuestWalk.{GuestWalk, walk_guest, dirtied}
-use Rattle.shadow.specs.Answer.{Result, gives}
+use Rattle.guest.specs.GuestWalk.{Ended, whole, GuestWalk, walk_guest, dirtied}
+use Rattle.shadow.specs.Answer.{Reply, gives}
 use Rattle.shadow.specs.Fill.{fill}
 use Rattle.shadow.specs.Access.{after_access, after_miss, after_walk}
 
@@ -77,27 +78,27 @@ module _ (M : Machine) (map : List ℕ) (p a b : ℕ) (s : State) where
   written last = state_of (dirtied M.tables q page last walked.words) s.shadow s.slots
 
   -- THE WAYS OUT OF AN ACCESS
-  pub data Way (out : Result) : Type 0 where
+  pub data Way (out : Reply) : Type 0 where
     slot : (k : ℕ) → k < slot_count → slot_serves s.slots p page q k ≡ true
         → out ≡ gives (Address (host_address (host_of map (guest (place_in s.slots p k))) a)) s → Way out
     shadow : is_present end ≡ true → enough q (meet path.rights (rights_of M.tables end)) ≡ true
         → out ≡ gives (Address (host_address (host (frame_of M.tables end)) a)) s → Way out
-    fault : (base : ℕ) → walked.ended ≡ Fault base → out ≡ gives (Faulted (base + q.adds)) (faulted M p page walked_over) → Way out
-    lacks : (last : Guest) (w : Walk) → walked.ended ≡ Whole last w → enough q w.rights ≡ false → out ≡ gives (Faulted (1 + q.adds)) (faulted M p page walked_over) → Way out
-    again : (last : Guest) (w : Walk) → walked.ended ≡ Whole last w → enough q w.rights ≡ true → out ≡ gives Again (fill M map p page (written last)) → Way out
+    fault : (stop : Stop) → walked.ended ≡ Err stop → out ≡ gives (Faulted (base_of stop + q.adds)) (faulted M p page walked_over) → Way out
+    lacks : (last : Guest) (w : Walk) → walked.ended ≡ whole last w → enough q w.rights ≡ false → out ≡ gives (Faulted (1 + q.adds)) (faulted M p page walked_over) → Way out
+    again : (last : Guest) (w : Walk) → walked.ended ≡ whole last w → enough q w.rights ≡ true → out ≡ gives Again (fill M map p page (written last)) → Way out
 
   miss : Way (after_miss M map p page q s)
   unfolding after_miss
   miss = go walked.ended refl
     where
-      by : (last : Guest) (w : Walk) → walked.ended ≡ Whole last w → (c : Bool) → enough q w.rights ≡ c
+      by : (last : Guest) (w : Walk) → walked.ended ≡ whole last w → (c : Bool) → enough q w.rights ≡ c
           → Way (cond c (gives Again (fill M map p page (written last))) (gives (Faulted (1 + q.adds)) (faulted M p page walked_over)))
       by last w e true c = again last w e c refl
       by last w e false c = lacks last w e c refl
 
-      go : (x : Walked) → walked.ended ≡ x → Way (after_walk M map p page q walked_over x)
-      go (Fault base) e = fault base e refl
-      go (Whole last w) e = by last w e (enough q w.rights) refl
+      go : (x : Ended) → walked.ended ≡ x → Way (after_walk M map p page q walked_over x)
+      go (Err stop) e = fault stop e refl
+      go (Ok x) e = by x.last x.walk e (enough q x.walk.rights) refl
 
   pub ways : Way (after_access M map p a b s)
   unfolding after_access
@@ -115,13 +116,13 @@ module _ (M : Machine) (map : List ℕ) (p a b : ℕ) (s : State) where
       go false e false f w g = miss
 
   -- where the page's path serves, an address is answered
-  pub served : is_present end ≡ true → enough q (meet path.rights (rights_of M.tables end)) ≡ true → (v : ℕ) × ((after_access M map p a b s).answer ≡ Address v)
+  pub served : is_present end ≡ true → enough q (meet path.rights (rights_of M.tables end)) ≡ true → (v : ℕ) × ((after_access M map p a b s).answer ≡ Ok (Address v))
   unfolding after_access
   served here good = go (ltb (serving_slot s.slots p page q) slot_count) here good
     where
       go : (u : Bool) → is_present end ≡ true → enough q (meet path.rights (rights_of M.tables end)) ≡ true
           → (v : ℕ) × ((cond u (gives (Address (host_address (host_of map (guest (place_in s.slots p (serving_slot s.slots p page q)))) a)) s)
-          (cond (is_present end && enough q (meet path.rights (rights_of M.tables end))) (gives (Address (host_address (host (frame_of M.tables end)) a)) s) (after_miss M map p page q s))).answer ≡ Address v)
+          (cond (is_present end && enough q (meet path.rights (rights_of M.tables end))) (gives (Address (host_address (host (frame_of M.tables end)) a)) s) (after_miss M map p page q s))).answer ≡ Ok (Address v))
       go true here good = (_, refl)
       go false here good = (host_address (host (frame_of M.tables end)) a, simp (here, good))
 
@@ -134,13 +135,13 @@ module _ (M : Machine) (map : List ℕ) (p a b : ℕ) (s : State) where
     pub written_same : (last : Guest) → Same M.tables (written last).words s.words
     written_same last = same_trans M.tables (dirtied-same M.tables sound q page last walked.words) walk_same
 
-    pub written_leads : (last : Guest) (w : Walk) → walked.ended ≡ Whole last w → Leads M (written last).words page last w.frame w.rights M.tables.levels cr3 7
+    pub written_leads : (last : Guest) (w : Walk) → walked.ended ≡ whole last w → Leads M (written last).words page last w.frame w.rights M.tables.levels cr3 7
     written_leads last w e = ((walk_reads M sound page (written last).words M.tables.levels s.words cr3 (start M.tables cr3) (same_sym M.tables (written_same last)) refl).leads last w e).0
 
   -- ---- EVERY WAY KEEPS THE STATE RULES
 
   module _ (ok : Able M) (spare : M.tables.levels ≤ M.share) (fits : Mapped M map) (hp : p < M.processors) (r : RightState M map s) where
-    module _ (last : Guest) (w : Walk) (e : walked.ended ≡ Whole last w) where
+    module _ (last : Guest) (w : Walk) (e : walked.ended ≡ whole last w) where
       pub written-right : RightState M map (written last)
       written-right = words_right M ok map fits (written last).words r
 
@@ -154,7 +155,7 @@ module _ (M : Machine) (map : List ℕ) (p a b : ℕ) (s : State) where
     fault_right : RightState M map (faulted M p page walked_over)
     fault_right = words_right M ok map fits walked.words r
 
-    way_right : {out : Result} → Way out → RightState M map out.state
+    way_right : {out : Reply} → Way out → RightState M map out.state
     way_right (slot k h v q) = rw q r
     way_right (shadow h v q) = rw q r
     way_right (fault base e q) = rw q fault_right
@@ -165,7 +166,7 @@ module _ (M : Machine) (map : List ℕ) (p a b : ℕ) (s : State) where
     access_right = way_right ways
 
     -- the words keep their number
-    way_words : {out : Result} → Way out → Same M.tables out.state.words s.words
+    way_words : {out : Reply} → Way out → Same M.tables out.state.words s.words
     way_words (slot k h v q) = rw q (same_refl M.tables s.words)
     way_words (shadow h v q) = rw q (same_refl M.tables s.words)
     way_words (fault base e q) = rw q (walk_same ok.sound)

@@ -7,6 +7,7 @@ use Prim.Native.Nat.{ℕ, zero, suc}
 use native.Mathlib.Omega.{arith}
 use Rattle.paging.specs.declared.Guest.{Guest}
 use Rattle.paging.specs.declared.Walk.{Walk}
+use Rattle.paging.specs.declared.Stop.{Stop}
 use Rattle.paging.specs.declared.Stop.TheVariants.{Absent, Beyond, Complete}
 use Rattle.paging.specs.Frame.{guest}
 use Rattle.paging.specs.Layout.{get, put, index, frame_of, rights_of, with_a}
@@ -15,16 +16,15 @@ use Rattle.paging.specs.Sound.{Alike, Sound}
 use Rattle.paging.proofs.Layouts.{present_alike, frame_alike, rights_alike}
 use Rattle.paging.proofs.Indices.{index_small}
 use Rattle.paging.proofs.Steps.{goes, completed}
-use Rattle.guest.specs.declared.Walked.TheVariants.{Whole, Fault}
 use Rattle.tables.specs.State.{Machine}
-use Rattle.guest.specs.GuestWalk.{GuestWalk, by_step, walk_from, guest_entry}
+use Rattle.guest.specs.GuestWalk.{whole, GuestWalk, by_step, walk_from, guest_entry}
 use Rattle.keeps.proofs.Alikes.{Same, same_trans, same_with_bit}
 use Rattle.trees.proofs.Settles.{Leads}
 
-whole_walk : {last last' : Guest} {w w' : Walk} → Whole last w ≡ Whole last' w' → w ≡ w'
+whole_walk : {last last' : Guest} {w w' : Walk} → whole last w ≡ whole last' w' → w ≡ w'
 whole_walk e = cc
 
-whole_last : {last last' : Guest} {w w' : Walk} → Whole last w ≡ Whole last' w' → last ≡ last'
+whole_last : {last last' : Guest} {w w' : Walk} → whole last w ≡ whole last' w' → last ≡ last'
 whole_last e = cc
 
 module _ (M : Machine) (sound : Sound M.tables) (page : ℕ) (words : List ℕ) where
@@ -32,7 +32,7 @@ module _ (M : Machine) (sound : Sound M.tables) (page : ℕ) (words : List ℕ) 
   -- that leads to its end
   pub record WalkReads (n : ℕ) (from g : Guest) (r : ℕ) (t : GuestWalk) : Type 0 where
     pub same : Same M.tables t.words words
-    pub leads : (last : Guest) (w : Walk) → t.ended ≡ Whole last w → Leads M words page last w.frame w.rights n g r × (n ≡ 0 → from ≡ last)
+    pub leads : (last : Guest) (w : Walk) → t.ended ≡ whole last w → Leads M words page last w.frame w.rights n g r × (n ≡ 0 → from ≡ last)
 
   pub walk_reads : (n : ℕ) (now : List ℕ) (from : Guest) (w : Walk) → Same M.tables now words → w.level ≡ n → WalkReads n from w.frame w.rights (walk_from M.tables M.frames page n now from w)
   unfolding walk_from
@@ -59,7 +59,7 @@ module _ (M : Machine) (sound : Sound M.tables) (page : ℕ) (words : List ℕ) 
       below : {w' : Walk} → step M.tables M.frames w e ≡ Ok w' → w'.level ≡ n
       below {w'} on = let g = goes M.tables M.frames w e w' on in omega (arith, q, ap (λ (y : Walk). y.level) g.is)
 
-      fault : {k : ℕ} {A : Type 0} {last : Guest} {w' : Walk} → Fault k ≡ Whole last w' → A
+      fault : {k : Stop} {A : Type 0} {last : Guest} {w' : Walk} → Err k ≡ whole last w' → A
       fault e = let z : ◌≡◌ {A = ℕ} 0 1 = cc in absurd (omega arith)
 
       on_from : Walk → GuestWalk

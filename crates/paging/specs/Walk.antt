@@ -11,6 +11,12 @@ use Rattle.paging.specs.Layout.{Layout, bit, frame_of, rights_of, is_present}
 abbrev pub Step : Type 0
 Step = Result Walk Stop
 
+-- "P is 0 gives a fault with base code 0; a frame of G or more gives base code 9"; of a completed walk "lacks a needed right … 1"
+abbrev pub base_of : Stop → ℕ
+base_of Absent = 0
+base_of Beyond = 9
+base_of Complete = 1
+
 -- the rights, W + 2 U + 4 X, that two numbers share
 unfoldable pub meet : ℕ → ℕ → ℕ
 meet a b = min (bit a 0) (bit b 0) + 2 * min (bit a 1) (bit b 1) + 4 * min (bit a 2) (bit b 2)

@@ -8,7 +8,7 @@ ghost use Rattle.paging.specs.Numbers.{is_between};
 ghost use Rattle.paging.specs.NotesCode.{noted_at, Noted};
 ghost use Rattle.paging.specs.Frame.{host_of, origin_of, is_new, map_fits, cr3s_fit, host_address};
 ghost use Rattle.paging.specs.Layout.{tables64, page_of, index, frame_of, rights_of, compose, is_present, with_bit, bit, frame_words, get, put};
-ghost use Rattle.paging.specs.Walk.{start, narrowed, down_to, step, meet};
+ghost use Rattle.paging.specs.Walk.{base_of, start, narrowed, down_to, step, meet};
 ghost use Rattle.paging.specs.Request.{request_of, enough};
 
 // The rights that a request needs, W + 2 U + 4 X, and what it adds to a fault's code.
@@ -267,6 +267,19 @@ pub enum Stop {
     Absent,
     Beyond,
     Complete,
+}
+
+impl Stop {
+    // The base code of the fault that a walk gives which stops so; one that is complete lacks a right.
+    pub fn base_code(self) -> u64
+        ensures { result ≡ base_of self }
+    {
+        match self {
+            Stop::Absent => 0,
+            Stop::Beyond => 9,
+            Stop::Complete => 1,
+        }
+    }
 }
 
 // What a walk does at an entry: it goes on, or it stops.

@@ -1,4 +1,5 @@
 -- An access carries the invariant: what it fills is the guest's path as it is now.
+use Rattle.guest.specs.GuestWalk.{Ended, whole as ended_at}
 use mathlib.Core.Path.{◌≡◌, refl, sym, ap, ◌∙◌}
 use mathlib.Core.List.{List}
 use mathlib.Core.Bool.{false}
@@ -32,11 +33,9 @@ use Rattle.promise.specs.Demand.{Fresh}
 use Rattle.promise.proofs.GuestWalks.{Ends, whole, absent, beyond, walks}
 use Rattle.promise.proofs.Holds.{U, drops, seen, ends, Holds, Pathed, Slotted, stay_path, stay_slot, stay_backed, same_path, same_slot, no_slot, quiet_unended, cr3-kept}
 use Rattle.promise.proofs.Carries.{After, sized, fits, hp, still, kept-words}
-use Rattle.guest.specs.declared.Walked.{Walked}
-use Rattle.guest.specs.declared.Walked.TheVariants.{Whole}
 use Rattle.slots.specs.Slots.{slot_count, page_in}
 use Rattle.paging.proofs.Counts.{by_cases}
-use Rattle.shadow.specs.Answer.{Result}
+use Rattle.shadow.specs.Answer.{Reply}
 use Rattle.shadow.specs.Fill.{fill}
 use Rattle.shadow.specs.Access.{after_access}
 use Rattle.shadow.specs.Refusals.{call_refusal}
@@ -74,13 +73,13 @@ module _ (F : Fresh) (es : List Event) (k : ℕ) (s : State) (h : Holds F es k s
         (walks M.tables h.laid.sound (seen F es p v) M.frames v k rules law reads M.tables.levels s.words (guest (shd M s.shadow (root_of M p)))
         (start M.tables (guest (shd M s.shadow (root_of M p)))) h.words begins refl).ended
 
-    ended_whole : {x : Walked} → Ends M.tables h.laid.sound (seen F es p v) M.frames v k rules law reads x → (last : Guest) (w : Walk) → x ≡ Whole last w
+    ended_whole : {x : Ended} → Ends M.tables h.laid.sound (seen F es p v) M.frames v k rules law reads x → (last : Guest) (w : Walk) → x ≡ ended_at last w
         → Kept (seen F es p v) k w × (w.level ≡ 0)
     ended_whole (whole {w = w'} held done) last w q = let e : w' ≡ w = cc in (rw e at held, rw e at done)
-    ended_whole (absent c held gone) last w q = let n : ◌≡◌ {A = ℕ} 0 1 = cc in absurd (omega arith)
-    ended_whole (beyond c held gone) last w q = let n : ◌≡◌ {A = ℕ} 0 1 = cc in absurd (omega arith)
+    ended_whole (absent held gone) last w q = let n : ◌≡◌ {A = ℕ} 0 1 = cc in absurd (omega arith)
+    ended_whole (beyond held gone) last w q = let n : ◌≡◌ {A = ℕ} 0 1 = cc in absurd (omega arith)
 
-    pub walk_held : (last : Guest) (w : Walk) → (walked M map p a b s).ended ≡ Whole last w → Kept (seen F es p v) k w × (w.level ≡ 0)
+    pub walk_held : (last : Guest) (w : Walk) → (walked M map p a b s).ended ≡ ended_at last w → Kept (seen F es p v) k w × (w.level ≡ 0)
     walk_held last w q = ended_whole walk_ends last w q
 
   -- ---- after an access
@@ -114,7 +113,7 @@ module _ (F : Fresh) (es : List Event) (k : ℕ) (s : State) (h : Holds F es k s
     unended : (r u : ℕ) → ends F es r u k ≡ false
     unended r u = quiet_unended F es r u k (λ x. omega arith) three
 
-    module _ (last : Guest) (w : Walk) (q : (walked M map p e.a e.b s).ended ≡ Whole last w) where
+    module _ (last : Guest) (w : Walk) (q : (walked M map p e.a e.b s).ended ≡ ended_at last w) where
       abbrev f : State
       f = fill M map p page (written M map p e.a e.b s last)
 
@@ -183,7 +182,7 @@ module _ (F : Fresh) (es : List Event) (k : ℕ) (s : State) (h : Holds F es k s
     fault_holds : After F es k s h ok (faulted M p page (walked_over M map p e.a e.b s))
     fault_holds = still F es k s h ok (λ x. omega arith) unended three (walked M map p e.a e.b s).words (walk_same M map p e.a e.b s h.laid.sound)
 
-    way : {out : Result} → Way M map p e.a e.b s out → After F es k s h ok out.state
+    way : {out : Reply} → Way M map p e.a e.b s out → After F es k s h ok out.state
     way (slot j hj v o) = rw o (still F es k s h ok (λ x. omega arith) unended three s.words (same_refl M.tables s.words))
     way (shadow x v o) = rw o (still F es k s h ok (λ x. omega arith) unended three s.words (same_refl M.tables s.words))
     way (fault base x o) = rw o fault_holds

@@ -16,17 +16,15 @@ use Rattle.paging.proofs.Indices.{index_small}
 use Rattle.rules.specs.View.{View}
 use Rattle.rules.specs.Coherent.{Coherent}
 use Rattle.rules.specs.Kept.{Kept, extend}
-use Rattle.guest.specs.declared.Walked.{Walked}
-use Rattle.guest.specs.declared.Walked.TheVariants.{Whole, Fault}
-use Rattle.guest.specs.GuestWalk.{GuestWalk, by_step, walk_from}
+use Rattle.guest.specs.GuestWalk.{Ended, whole as ended_at, GuestWalk, by_step, walk_from}
 use Rattle.keeps.proofs.Alikes.{Same, same_trans, same_with_bit, same_step}
 
 module _ (Y : Layout) (sound : Sound Y) (seen : View) (G page k : ℕ) (rules : List ℕ) (law : Coherent seen Y.levels G)
     (reads : (w : Walk) → seen.steps k w ≡ step Y G w (get Y rules w.frame.0 (index Y page w.level))) where
-  pub data Ends : Walked → Type 0 where
-    whole : {last : Guest} {w : Walk} → Kept seen k w → w.level ≡ 0 → Ends (Whole last w)
-    absent : {w : Walk} {c : ℕ} → c ≡ 0 → Kept seen k w → seen.steps k w ≡ (Err Absent) → Ends (Fault c)
-    beyond : {w : Walk} {c : ℕ} → c ≡ 9 → Kept seen k w → seen.steps k w ≡ (Err Beyond) → Ends (Fault c)
+  pub data Ends : Ended → Type 0 where
+    whole : {last : Guest} {w : Walk} → Kept seen k w → w.level ≡ 0 → Ends (ended_at last w)
+    absent : {w : Walk} → Kept seen k w → seen.steps k w ≡ (Err Absent) → Ends (Err Absent)
+    beyond : {w : Walk} → Kept seen k w → seen.steps k w ≡ (Err Beyond) → Ends (Err Beyond)
 
   pub record Walks (t : GuestWalk) : Type 0 where
     pub words : Same Y t.words rules
@@ -55,6 +53,6 @@ module _ (Y : Layout) (sound : Sound Y) (seen : View) (G page k : ℕ) (rules : 
           → ((w' : Walk) → step Y G w e ≡ Ok w' → Walks (walk_from Y G page n (put Y words w.frame.0 i (with_a e)) w.frame w'))
           → Walks (by_step words last w (λ w'. walk_from Y G page n (put Y words w.frame.0 i (with_a e)) w.frame w') r)
       by (Ok w') q ih = ih w' q
-      by (Err Absent) q ih = record { words = s; ended = absent refl h (same q) }
-      by (Err Beyond) q ih = record { words = s; ended = beyond refl h (same q) }
+      by (Err Absent) q ih = record { words = s; ended = absent h (same q) }
+      by (Err Beyond) q ih = record { words = s; ended = beyond h (same q) }
       by (Err Complete) q ih = record { words = s; ended = whole h (law.undone k w (same q)) }

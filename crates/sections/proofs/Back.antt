@@ -6,7 +6,7 @@ use Prim.Native.Nat.{ℕ, ◌+◌, ◌*◌, ◌^◌, ◌≤◌, ◌<◌}
 use native.Mathlib.Omega.{arith}
 use lib.ListN.{length, take, drop, get_or, length-append}
 use lib.Seq.{drop-append_seam, drop-drop, take-append_seam, get_or-append_seam}
-use Rattle.cursor.specs.declared.Next.TheVariants.{Number}
+use Rattle.std.specs.Prelude.{Ok}
 use Rattle.cursor.specs.Text.{cursor_at, past_blanks, digits_of, spaced, next_at}
 use Rattle.cursor.proofs.Back.{Stops, past_one, next_digits}
 use Rattle.sections.specs.declared.Section.{Section}
@@ -45,7 +45,7 @@ module _ (fits : List ℕ → ℕ → Bool) (text l rest : List ℕ) (each : (i 
       let f : drop at text ≡ 32 ∷ (digits_of n ++ more) = d ∙ ap (λ (m : List ℕ). 32 ∷ m) (append_assoc (digits_of n) (spaced ns) rest) in
       let g : drop (at + 1) text ≡ digits_of n ++ more = sym (drop-drop 1 at text) ∙ ap (drop 1) f in
       let to = at + 1 + length (digits_of n) in
-      let next : next_at text at ≡ Number n (cursor_at text to) =
+      let next : next_at text at ≡ Ok (record { value = n; after = cursor_at text to }) =
       next_digits text at n more (omega (arith, small i inside)) (stops ns rest) (at + 1) (past_one text at n more 32 refl f) g in
       let k = numbers_back (before ++ n ∷ []) ns to (append_assoc before (n ∷ []) ns ∙ e) (behind text (at + 1) n more g) in
       record {
@@ -65,7 +65,7 @@ few Questions n h = omega arith
 pub section_back : {k : Section} {G P : ℕ} {ns : List ℕ} (r : RangedSection k G P ns) → G ≤ 16 → (text rest : List ℕ) (at here : ℕ)
     → past_blanks text at ≡ here → drop here text ≡ digits_of r.count ++ (spaced ns ++ rest) → UpTo (section k G P text at) text ns rest
 section_back {k} {G} {P} {ns} r h text rest at here p d =
-    let next : next_at text at ≡ Number r.count (cursor_at text (here + length (digits_of r.count))) =
+    let next : next_at text at ≡ Ok (record { value = r.count; after = cursor_at text (here + length (digits_of r.count)) }) =
     next_digits text at r.count (spaced ns ++ rest) (few k r.count (count_fits k G r.count h r.counted)) (stops ns rest) here p d in
     let to = here + length (digits_of r.count) in
     let b = numbers_back (in_range k G P) text ns rest r.each r.small [] ns to refl (behind text here r.count (spaced ns ++ rest) d) in

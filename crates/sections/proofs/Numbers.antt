@@ -9,7 +9,9 @@ use borrow.Author.Tests.{leb-true}
 use lib.ListN.{length, take, drop, set, length-set}
 use lib.Seq.{take-suc-set, drop-set-lt}
 use Rattle.cursor.specs.declared.Cursor.{Cursor}
-use Rattle.cursor.specs.declared.Next.TheVariants.{Number, Bad}
+use Rattle.cursor.specs.declared.NoNumber.{NoNumber}
+use Rattle.cursor.specs.declared.Number.{Number}
+use Rattle.std.specs.Prelude.{Ok, Err}
 use Rattle.cursor.specs.Text.{line_at, past_blanks, next_at}
 use Rattle.cursor.specs.CursorCode.{Stands}
 use Rattle.cursor.proofs.DigitRuns.{next-stands, next-line, bad_line}
@@ -20,21 +22,21 @@ use Rattle.sections.specs.Sections.{Got, got, refused, ◌then◌, judged, due, 
 use Rattle.sections.specs.PartsCode.{capacity, Front}
 
 module _ (fits : ℕ → Bool) (text : List ℕ) (at : ℕ) where
-  pub due_bad : {line : ℕ} → Bad line ≡ next_at text at → due fits text at ≡ refused 10 line
+  pub due_bad : {none : NoNumber} → Err none ≡ next_at text at → due fits text at ≡ refused 10 none.line
   unfolding due
   due_bad e = sym (ap (judged fits (line_at text (past_blanks text at))) e) ∙ ap (refused 10) (sym (bad_line text at e))
 
-  pub due-out : {v : ℕ} {c : Cursor} → Number v c ≡ next_at text at → fits v ≡ false → due fits text at ≡ refused 11 c.line
+  pub due-out : {n : Number} → Ok n ≡ next_at text at → fits n.value ≡ false → due fits text at ≡ refused 11 n.after.line
   unfolding due
-  due-out {v} {c} e t =
+  due-out {n} e t =
       sym (ap (judged fits (line_at text (past_blanks text at))) e)
-      ∙ ap₂ (λ (b : Bool) (line : ℕ). cond b (got v c.at) (refused 11 line)) t (sym (next-line text at e))
+      ∙ ap₂ (λ (b : Bool) (line : ℕ). cond b (got n.value n.after.at) (refused 11 line)) t (sym (next-line text at e))
 
-  pub due_in : {v : ℕ} {c : Cursor} → Number v c ≡ next_at text at → fits v ≡ true → due fits text at ≡ got v c.at
+  pub due_in : {n : Number} → Ok n ≡ next_at text at → fits n.value ≡ true → due fits text at ≡ got n.value n.after.at
   unfolding due
-  due_in {v} {c} e t =
+  due_in {n} e t =
       sym (ap (judged fits (line_at text (past_blanks text at))) e)
-      ∙ ap (λ (b : Bool). cond b (got v c.at) (refused 11 (line_at text (past_blanks text at)))) t
+      ∙ ap (λ (b : Bool). cond b (got n.value n.after.at) (refused 11 (line_at text (past_blanks text at)))) t
 
 module _ (fits : List ℕ → ℕ → Bool) (text : List ℕ) (at m : ℕ) (before : List ℕ) where
   abbrev rest : ℕ → ℕ → Got (List ℕ)
@@ -76,16 +78,17 @@ module _ {fits : List ℕ → ℕ → Bool} {text old : List ℕ} {at n : ℕ} {
       let m : suc (n - (i + 1)) ≡ n - i = omega arith in
       ap (λ (k : ℕ). numbers fits text k (take i new) c.at) m ∙ w.left
 
-  pub turn_bad : {line : ℕ} → i < n → Bad line ≡ next_at text c.at → numbers fits text n [] at ≡ refused 10 line
+  pub turn_bad : {none : NoNumber} → i < n → Err none ≡ next_at text c.at → numbers fits text n [] at ≡ refused 10 none.line
   turn_bad h e = sym (next_left h) ∙ numbers_refused fits text c.at (n - (i + 1)) (take i new) (due_bad (fits (take i new)) text c.at e)
 
-  pub turn-out : {v : ℕ} {to : Cursor} → i < n → Number v to ≡ next_at text c.at → fits (take i new) v ≡ false
-      → numbers fits text n [] at ≡ refused 11 to.line
+  pub turn-out : {m : Number} → i < n → Ok m ≡ next_at text c.at → fits (take i new) m.value ≡ false
+      → numbers fits text n [] at ≡ refused 11 m.after.line
   turn-out h e t = sym (next_left h) ∙ numbers_refused fits text c.at (n - (i + 1)) (take i new) (due-out (fits (take i new)) text c.at e t)
 
-  pub turn_more : {v : ℕ} {to : Cursor} → i < n → Number v to ≡ next_at text c.at → fits (take i new) v ≡ true
-      → Turned fits text old at n (set new i v) (i + 1) to
-  turn_more {v} {to} h e t =
+  pub turn_more : {m : Number} → i < n → Ok m ≡ next_at text c.at → fits (take i new) m.value ≡ true
+      → Turned fits text old at n (set new i m.value) (i + 1) m.after
+  turn_more {m} h e t =
+      let v = m.value in
       let r : n ≤ length new = w.room in
       let f : take (i + 1) (set new i v) ≡ take i new ++ v ∷ [] = ap (λ (k : ℕ). take k (set new i v)) (add-one i) ∙ take-suc-set new i v (omega arith) in
       record {
@@ -94,7 +97,7 @@ module _ {fits : List ℕ → ℕ → Bool} {text old : List ℕ} {at n : ℕ} {
         same = length-set new i v ∙ w.same;
         stays = drop-set-lt n new i v h ∙ w.stays;
         stands = next-stands text c.at w.stands.inside e;
-        left = ap (λ (l : List ℕ). numbers fits text (n - (i + 1)) l to.at) f ∙ sym (numbers_more fits text c.at (n - (i + 1)) (take i new) (due_in (fits (take i new)) text c.at e t)) ∙ next_left h;
+        left = ap (λ (l : List ℕ). numbers fits text (n - (i + 1)) l m.after.at) f ∙ sym (numbers_more fits text c.at (n - (i + 1)) (take i new) (due_in (fits (take i new)) text c.at e t)) ∙ next_left h;
       }
 
   pub turn_end : n ≤ i → Front (numbers fits text n [] at) text old new n c

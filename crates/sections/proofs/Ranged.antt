@@ -8,9 +8,9 @@ use native.Mathlib.Nat.{eq-or-lt_of_le}
 use native.Mathlib.Omega.{arith}
 use lib.ListN.{length, take, get_or, length-append}
 use lib.Seq.{take-length, take-append_seam, take-take, get_or-take, get_or-append_seam}
-use Rattle.cursor.specs.declared.Cursor.{Cursor}
-use Rattle.cursor.specs.declared.Next.{Next}
-use Rattle.cursor.specs.declared.Next.TheVariants.{Number, Bad}
+use Rattle.cursor.specs.declared.NoNumber.{NoNumber}
+use Rattle.cursor.specs.declared.Number.{Number}
+use Rattle.std.specs.Prelude.{Result, Ok, Err}
 use Rattle.cursor.specs.Text.{line_at, past_blanks, next_at}
 use Rattle.cursor.proofs.DigitRuns.{next_small}
 use Rattle.sections.specs.declared.Section.{Section}
@@ -25,23 +25,23 @@ pub record Both {A B : Type 0} (m : Got A) (next : A → ℕ → Got B) (x : B) 
 
 pub both : {A B : Type 0} (m : Got A) (next : A → ℕ → Got B) {x : B} {at : ℕ} → (m then next) ≡ got x at → Both m next x at
 both (got a p) next e = record { value = a; place = p; first = refl; rest = e }
-both (refused number line) next e = let z : ◌≡◌ {A = ℕ} 0 1 = cc in absurd (omega arith)
+both (refused number line) next e = cc
 
 judged_if : (fits : ℕ → Bool) (w p line : ℕ) (b : Bool) {v q : ℕ} → fits w ≡ b → w < 2 ^ 64 → cond b (got w p) (refused 11 line) ≡ got v q
     → (fits v ≡ true) × (v < 2 ^ 64)
 judged_if fits w p line true {v} t h e =
     let s : w ≡ v = cc in
     (ap fits (sym s) ∙ t, omega arith)
-judged_if fits w p line false t h e = let z : ◌≡◌ {A = ℕ} 0 1 = cc in absurd (omega arith)
+judged_if fits w p line false t h e = cc
 
-judged-fits : (fits : ℕ → Bool) (line : ℕ) (n : Next) {v p : ℕ} → ((w : ℕ) (c : Cursor) → Number w c ≡ n → w < 2 ^ 64) → judged fits line n ≡ got v p
+judged-fits : (fits : ℕ → Bool) (line : ℕ) (r : Result Number NoNumber) {v p : ℕ} → ((n : Number) → Ok n ≡ r → n.value < 2 ^ 64) → judged fits line r ≡ got v p
     → (fits v ≡ true) × (v < 2 ^ 64)
-judged-fits fits line (Number w c) h e = judged_if fits w c.at line (fits w) refl (h w c refl) e
-judged-fits fits line (Bad _) h e = let z : ◌≡◌ {A = ℕ} 0 1 = cc in absurd (omega arith)
+judged-fits fits line (Ok n) h e = judged_if fits n.value n.after.at line (fits n.value) refl (h n refl) e
+judged-fits fits line (Err _) h e = cc
 
 due-fits : (fits : ℕ → Bool) (text : List ℕ) (at : ℕ) {v p : ℕ} → due fits text at ≡ got v p → (fits v ≡ true) × (v < 2 ^ 64)
 unfolding due
-due-fits fits text at e = judged-fits fits (line_at text (past_blanks text at)) (next_at text at) (λ w c q. next_small text at q) e
+due-fits fits text at e = judged-fits fits (line_at text (past_blanks text at)) (next_at text at) (λ n q. next_small text at q) e
 
 -- n numbers after those before
 record Within (fits : List ℕ → ℕ → Bool) (before : List ℕ) (n : ℕ) (l : List ℕ) : Type 0 where

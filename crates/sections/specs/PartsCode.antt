@@ -1,10 +1,13 @@
 -- What `read` promises: a section stands in front of a buffer, or the first fault is told.
-use Rattle.std.specs.Prelude.{◌≡◌, List, ℕ, ◌*◌, ◌≤◌, length, take, drop}
+use Rattle.std.specs.Prelude.{◌≡◌, List, ℕ, ◌*◌, ◌≤◌, length, take, drop, Result, Ok, Err}
 use Rattle.cursor.specs.declared.Cursor.{Cursor}
+use Rattle.cursor.specs.declared.NoNumber.{NoNumber}
+use Rattle.rules.specs.declared.Refusal.TheVariants.{NoNumber as NumberMissing, OutOfRange}
+use Rattle.rules.specs.Refusal.{number_of}
 use Rattle.sections.specs.declared.Section.{Section}
 use Rattle.sections.specs.declared.Section.TheVariants.{Map, Cr3s, Words, Events, Questions}
 use Rattle.sections.specs.declared.Part.{Part}
-use Rattle.sections.specs.declared.Part.TheVariants.{Read, Refused}
+use Rattle.sections.specs.declared.TextFault.{TextFault}
 use Rattle.sections.specs.Sizes.{most_frames, most_processors, pairs_size, events_size, questions_size}
 use Rattle.sections.specs.Sections.{Got, got, refused}
 use Rattle.cursor.specs.CursorCode.{Stands}
@@ -28,6 +31,13 @@ pub record Front (m : Got (List ℕ)) (text old new : List ℕ) (n : ℕ) (c : C
   pub kept : Kept old new n
   pub stands : Stands text c
 
-pub record PartIs (m : Got (List ℕ)) (w : ℕ) (text old new : List ℕ) (r : Part) : Type 0 where
-  pub read : {count : ℕ} {c : Cursor} → r ≡ Read count c → Front m text old new (count * w) c
-  pub fault : {number line : ℕ} → r ≡ Refused number line → m ≡ refused number line
+-- 10 where no number can be read, 11 where one is out of range
+abbrev pub fault_of : NoNumber → TextFault
+fault_of none = record { refusal = NumberMissing; line = none.line }
+
+abbrev pub out_of_range : Cursor → TextFault
+out_of_range after = record { refusal = OutOfRange; line = after.line }
+
+abbrev pub PartIs : Got (List ℕ) → ℕ → List ℕ → List ℕ → List ℕ → Result Part TextFault → Type 0
+PartIs m w text old new (Ok part) = Front m text old new (part.count * w) part.after
+PartIs m w text old new (Err fault) = m ≡ refused (number_of fault.refusal) fault.line

@@ -1,7 +1,7 @@
 -- "Puzzle text": from the numbers of a text to a puzzle. Each number is judged in its turn, so "the first place decides".
-use Rattle.std.specs.Prelude.{◌≡◌, Bool, true, cond, ◌&&◌, ◌||◌, List, [], ◌∷◌, ◌++◌, ℕ, zero, suc, ◌-◌, ◌*◌, ◌%◌, ◌^◌, ◌<◌, eqb, ltb, leb, length, take, get_or}
-use Rattle.cursor.specs.declared.Next.{Next}
-use Rattle.cursor.specs.declared.Next.TheVariants.{Number, Bad}
+use Rattle.std.specs.Prelude.{◌≡◌, Bool, true, cond, ◌&&◌, ◌||◌, List, [], ◌∷◌, ◌++◌, ℕ, zero, suc, ◌-◌, ◌*◌, ◌%◌, ◌^◌, ◌<◌, eqb, ltb, leb, length, take, get_or, Result, Ok, Err}
+use Rattle.cursor.specs.declared.NoNumber.{NoNumber}
+use Rattle.cursor.specs.declared.Number.{Number}
 use Rattle.cursor.specs.Text.{line_at, past_blanks, next_at}
 use Rattle.paging.specs.Numbers.{is_between}
 use Rattle.paging.specs.Frame.{is_new}
@@ -25,9 +25,9 @@ abbrev pub ◌then◌ : {A B : Type 0} → Got A → (A → ℕ → Got B) → G
 infixr 10 ◌then◌
 -- a number is due past the blanks: 10 if none can be read there, 11 if it is out of range
 -- "any other fault's is the first byte of the number, and 10 comes before 11 at one place"
-abbrev pub judged : (ℕ → Bool) → ℕ → Next → Got ℕ
-judged fits line (Bad _) = refused 10 line
-judged fits line (Number v c) = cond (fits v) (got v c.at) (refused 11 line)
+abbrev pub judged : (ℕ → Bool) → ℕ → Result Number NoNumber → Got ℕ
+judged fits line (Err _) = refused 10 line
+judged fits line (Ok n) = cond (fits n.value) (got n.value n.after.at) (refused 11 line)
 
 unfoldable pub due : (ℕ → Bool) → List ℕ → ℕ → Got ℕ
 due fits text at = judged fits (line_at text (past_blanks text at)) (next_at text at)

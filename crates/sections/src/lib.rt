@@ -1,14 +1,14 @@
 // A section of a puzzle text: a count and its numbers, each in its range, read into the front of a buffer.
 #![tactic(auto)]
 
-ghost use Rattle.std.specs.Prelude.{◌≡◌, [], ◌*◌, ◌≤◌, length, take};
+ghost use Rattle.std.specs.Prelude.{◌≡◌, [], ◌*◌, ◌≤◌, length};
 ghost use Rattle.sections.specs.Sizes.{most_frames};
 ghost use Rattle.sections.specs.Sections.{map_range, word_range, event_so_far, event_range, question_range, width, count_range, in_range, numbers, section};
-ghost use Rattle.sections.specs.PartsCode.{capacity, PartIs};
+ghost use Rattle.sections.specs.PartsCode.{capacity, fault_of, out_of_range, PartIs};
 ghost use Rattle.cursor.specs.CursorCode.{Stands};
 
-use cursor::{Cursor, Next};
-use rules::Event;
+use cursor::{Cursor, NoNumber};
+use rules::{Event, Refusal};
 
 // "The programs take G to 16, S = 4, 256 events, 16 questions and 65,536 bytes of text", and "P 1..4".
 pub const MOST_FRAMES: usize = 16;
@@ -39,132 +39,151 @@ pub enum Section {
     Questions,
 }
 
-// The count of a section and the cursor after it, or a refusal number and its line.
+// The count of a section and the cursor after it.
 #[derive(Clone, Copy)]
-pub enum Part {
-    Read(u64, Cursor),
-    Refused(u64, u64),
+pub struct Part {
+    pub count: u64,
+    pub after: Cursor,
 }
 
-fn in_map_range(before: &[u64], i: usize, v: u64) -> bool
-    requires { i ≤ length before.now }
-    ensures { result ≡ map_range (take i before.now) v }
-{
-    if v >= 0x10_0000 {
-        return false;
+// Why a text is refused, and on which line.
+#[derive(Clone, Copy)]
+pub struct TextFault {
+    pub refusal: Refusal,
+    pub line: u64,
+}
+
+impl From<NoNumber> for TextFault {
+    ghost from_gives = { λ none fault. fault ≡ fault_of none };
+
+    fn from(none: NoNumber) -> TextFault {
+        TextFault {
+            refusal: Refusal::NoNumber,
+            line: none.line,
+        }
     }
-    paging::is_new(before, i, v)
 }
 
-fn in_word_range(g: u64, before: &[u64], i: usize, v: u64) -> bool
-    requires { (g ≤ most_frames) × (i ≤ length before.now) }
-    ensures { result ≡ word_range g (take i before.now) v }
+#[tactic(auto, unfolding(crate::specs::Sections::map_range))]
+fn in_map_range(before: &[u64], v: u64) -> bool
+    ensures { result ≡ map_range before.now v }
 {
+    v < 0x10_0000 && paging::is_new(before, before.len(), v)
+}
+
+#[tactic(auto, unfolding(crate::specs::Sections::word_range))]
+fn in_word_range(g: u64, before: &[u64], v: u64) -> bool
+    requires { g ≤ most_frames }
+    ensures { result ≡ word_range g before.now v }
+{
+    let i = before.len();
     if i % 2 != 0 {
         return true;
     }
-    if v >= paging::FRAME_WORDS as u64 * g {
-        return false;
-    }
-    if i == 0 {
-        return true;
-    }
-    before[i - 2] < v
+    v < paging::FRAME_WORDS as u64 * g && (i == 0 || before[i - 2] < v)
 }
 
 // What is still to come of the event is taken to be a store of 0 to word 0, which always fits.
-fn event_so_far(before: &[u64], i: usize, v: u64) -> Event
-    requires { i ≤ length before.now }
-    ensures { result ≡ event_so_far (take i before.now) v }
+fn event_so_far(before: &[u64], v: u64) -> Event
+    ensures { result ≡ event_so_far before.now v }
 {
-    let part = i % 4;
-    if part == 0 {
-        return Event {
+    let i = before.len();
+    match i % 4 {
+        0 => Event {
             proc: v,
             kind: 1,
             a: 0,
             b: 0,
-        };
-    }
-    if part == 1 {
-        return Event {
+        },
+        1 => Event {
             proc: before[i - 1],
             kind: v,
             a: 0,
             b: 0,
-        };
-    }
-    if part == 2 {
-        return Event {
+        },
+        2 => Event {
             proc: before[i - 2],
             kind: before[i - 1],
             a: v,
             b: 0,
-        };
-    }
-    Event {
-        proc: before[i - 3],
-        kind: before[i - 2],
-        a: before[i - 1],
-        b: v,
+        },
+        _ => Event {
+            proc: before[i - 3],
+            kind: before[i - 2],
+            a: before[i - 1],
+            b: v,
+        },
     }
 }
 
-fn in_event_range(g: u64, p: u64, before: &[u64], i: usize, v: u64) -> bool
-    requires { (g ≤ most_frames) × (i ≤ length before.now) }
-    ensures { result ≡ event_range g p (take i before.now) v }
+#[tactic(auto, unfolding(crate::specs::Sections::event_range))]
+fn in_event_range(g: u64, p: u64, before: &[u64], v: u64) -> bool
+    requires { g ≤ most_frames }
+    ensures { result ≡ event_range g p before.now v }
 {
-    rules::event_refusal(g, p, event_so_far(before, i, v)) == 0
+    rules::test_event(g, p, event_so_far(before, v)).is_ok()
 }
 
+#[tactic(auto, unfolding(crate::specs::Sections::question_range))]
 fn in_question_range(p: u64, i: usize, v: u64) -> bool
     ensures { result ≡ question_range p i v }
 {
-    let part = i % 3;
-    if part == 0 {
-        return v < p;
-    }
-    if part == 1 {
-        return paging::is_allowed(v);
-    }
-    v <= 5
-}
-
-fn in_range(which: Section, g: u64, p: u64, before: &[u64], i: usize, v: u64) -> bool
-    requires { (g ≤ most_frames) × (i ≤ length before.now) }
-    ensures { result ≡ in_range which g p (take i before.now) v }
-{
-    match which {
-        Section::Map => in_map_range(before, i, v),
-        Section::Cr3s => v < g,
-        Section::Words => in_word_range(g, before, i, v),
-        Section::Events => in_event_range(g, p, before, i, v),
-        Section::Questions => in_question_range(p, i, v),
+    match i % 3 {
+        0 => v < p,
+        1 => paging::is_allowed(v),
+        _ => v <= 5,
     }
 }
 
-fn width_of(which: Section) -> usize
-    ensures { result ≡ width which }
-{
-    match which {
-        Section::Map => 1,
-        Section::Cr3s => 1,
-        Section::Words => 2,
-        Section::Events => 4,
-        Section::Questions => 3,
+impl Section {
+    // How many numbers make one of the section.
+    fn width(self) -> usize
+        ensures { result ≡ width self }
+    {
+        match self {
+            Section::Map => 1,
+            Section::Cr3s => 1,
+            Section::Words => 2,
+            Section::Events => 4,
+            Section::Questions => 3,
+        }
+    }
+
+    fn in_count_range(self, g: u64, n: u64) -> bool
+        requires { g ≤ most_frames }
+        ensures { result ≡ count_range self g n }
+    {
+        match self {
+            Section::Map => (1..=MOST_FRAMES as u64).contains(&n),
+            Section::Cr3s => (1..=MOST_PROCESSORS as u64).contains(&n),
+            Section::Words => n <= paging::FRAME_WORDS as u64 * g,
+            Section::Events => n <= MOST_EVENTS as u64,
+            Section::Questions => (1..=MOST_QUESTIONS as u64).contains(&n),
+        }
+    }
+
+    // Whether a number of the section may follow those before it.
+    fn in_range(self, g: u64, p: u64, before: &[u64], v: u64) -> bool
+        requires { g ≤ most_frames }
+        ensures { result ≡ in_range self g p before.now v }
+    {
+        match self {
+            Section::Map => in_map_range(before, v),
+            Section::Cr3s => v < g,
+            Section::Words => in_word_range(g, before, v),
+            Section::Events => in_event_range(g, p, before, v),
+            Section::Questions => in_question_range(p, before.len(), v),
+        }
     }
 }
 
-fn in_count_range(which: Section, g: u64, n: u64) -> bool
-    requires { g ≤ 16 }
-    ensures { result ≡ count_range which g n }
+// A number out of range: it stands on the line where the cursor after it is.
+fn out_of_range(after: Cursor) -> TextFault
+    ensures { result ≡ out_of_range after }
 {
-    match which {
-        Section::Map => paging::is_between(1, MOST_FRAMES as u64, n),
-        Section::Cr3s => paging::is_between(1, MOST_PROCESSORS as u64, n),
-        Section::Words => n <= paging::FRAME_WORDS as u64 * g,
-        Section::Events => n <= MOST_EVENTS as u64,
-        Section::Questions => paging::is_between(1, MOST_QUESTIONS as u64, n),
+    TextFault {
+        refusal: Refusal::OutOfRange,
+        line: after.line,
     }
 }
 
@@ -176,43 +195,37 @@ fn read_numbers(
     p: u64,
     count: u64,
     buffer: &mut [u64],
-) -> Part
+) -> Result<Part, TextFault>
     requires { Stands text.now from × (g ≤ most_frames) × (count * width which ≤ length buffer.old) }
     ensures { PartIs (numbers (in_range which g p) text.now (count * width which) [] from.at) (width which) text.now buffer.old buffer.new result }
 {
-    let n = count as usize * width_of(which);
     let mut c = from;
-    let mut i = 0;
-    while i < n {
-        match cursor::next_from(text, c) {
-            Next::Bad(line) => {
-                return Part::Refused(10, line);
-            }
-            Next::Number(v, after) => {
-                if !in_range(which, g, p, buffer, i, v) {
-                    return Part::Refused(11, after.line);
-                }
-                buffer[i] = v;
-                c = after;
-                i += 1;
-            }
+    for i in 0..count as usize * which.width() {
+        let number = cursor::next_from(text, c)?;
+        if !which.in_range(g, p, &buffer[..i], number.value) {
+            return Err(out_of_range(number.after));
         }
+        buffer[i] = number.value;
+        c = number.after;
     }
-    Part::Read(count, c)
+    Ok(Part { count, after: c })
 }
 
 // A section after its count. The buffer has room for the longest one.
-pub fn read(text: &[u8], from: Cursor, which: Section, g: u64, p: u64, buffer: &mut [u64]) -> Part
+pub fn read(
+    text: &[u8],
+    from: Cursor,
+    which: Section,
+    g: u64,
+    p: u64,
+    buffer: &mut [u64],
+) -> Result<Part, TextFault>
     requires { Stands text.now from × (g ≤ most_frames) × (length buffer.old ≡ capacity which) }
     ensures { PartIs (section which g p text.now from.at) (width which) text.now buffer.old buffer.new result }
 {
-    match cursor::next_from(text, from) {
-        Next::Bad(line) => Part::Refused(10, line),
-        Next::Number(count, c) => {
-            if !in_count_range(which, g, count) {
-                return Part::Refused(11, c.line);
-            }
-            read_numbers(text, c, which, g, p, count, buffer)
-        }
+    let count = cursor::next_from(text, from)?;
+    if !which.in_count_range(g, count.value) {
+        return Err(out_of_range(count.after));
     }
+    read_numbers(text, count.after, which, g, p, count.value, buffer)
 }

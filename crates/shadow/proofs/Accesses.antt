@@ -19,7 +19,7 @@ use Rattle.tables.specs.State.{Machine, State, table_count, root_of, entry_of, t
 use Rattle.slots.specs.Slots.{place_in, serving_slot}
 use Rattle.tables.proofs.Names.{named_small}
 use Rattle.shadow.specs.declared.Answer.TheVariants.{Address}
-use Rattle.shadow.specs.Answer.{Result, gives}
+use Rattle.shadow.specs.Answer.{Reply, gives}
 use Rattle.shadow.specs.Access.{after_miss, after_access}
 
 small : ℕ → Bool
@@ -59,7 +59,7 @@ path_range M pool p page l h hl =
     record { level = omega (arith, r.level); table = r.table; rights = r.rights }
 
 module _ (M : Machine) (map : List ℕ) (p a r : ℕ) (s : State) where
-  abbrev by_all : ℕ → Request → ℕ → Path → ℕ → Result
+  abbrev by_all : ℕ → Request → ℕ → Path → ℕ → Reply
   by_all page q k w e =
       cond (ltb k 8)
       (gives (Address (host_address (host_of map (guest (place_in s.slots p k))) a)) s)
@@ -90,5 +90,5 @@ module _ (M : Machine) (map : List ℕ) (p a r : ℕ) (s : State) where
       access_path serves ev =
           ap (λ (v : ℕ). gives (Address v) s) ev ∙ (simp (le-ltb k 8 none, serves) at (spelt w e ew entry_is))
 
-      pub access_miss : is_present e && enough q (meet w.rights (rights_of M.tables e)) ≡ false → {d : Result} → d ≡ after_miss M map p page q s → d ≡ after_access M map p a r s
+      pub access_miss : is_present e && enough q (meet w.rights (rights_of M.tables e)) ≡ false → {d : Reply} → d ≡ after_miss M map p page q s → d ≡ after_access M map p a r s
       access_miss fails ed = ed ∙ (simp (le-ltb k 8 none, fails) at (spelt w e ew entry_is))

@@ -1,8 +1,8 @@
 -- The number of a setup, test by test; and what is known of one that is accepted.
-use mathlib.Core.Path.{◌≡◌, sym, ap, ◌∙◌}
-use mathlib.Core.Bool.{Bool, true, false, not, ◌&&◌}
+use mathlib.Core.Path.{◌≡◌, refl, sym, ap, ◌∙◌}
+use mathlib.Core.Bool.{Bool, true, false, cond, not, ◌&&◌}
 use mathlib.Core.List.{List, [], ◌∷◌}
-use Prim.Native.Nat.{ℕ, ◌+◌, ◌^◌, ◌≤◌}
+use Prim.Native.Nat.{ℕ, ◌+◌, ◌^◌, ◌≤◌, ◌<◌}
 use native.Mathlib.Omega.{arith}
 use lib.Dec.{eqb}
 use lib.ListN.{length, get_or, replicate}
@@ -14,22 +14,16 @@ use Rattle.rules.specs.Refusal.{test, refusal}
 use Rattle.rules.proofs.Ranges.{clear}
 use Rattle.tables.specs.declared.Sizes.{Sizes}
 use Rattle.tables.specs.State.{Machine, shadow_of, State, state_of, machine64, table_count}
-use Rattle.shadow.specs.declared.Answer.TheVariants.{Done, Refused}
-use Rattle.shadow.specs.Answer.{gives}
+use Rattle.shadow.specs.declared.Answer.TheVariants.{Done}
+use Rattle.shadow.specs.Answer.{gives, refuses}
 use Rattle.shadow.specs.Refusals.{ranges_fit, lengths_fit, pool_fits, in_pool, frames_fit, setup_refusal}
 use Rattle.shadow.specs.Setup.{rooted, after_setup}
 use Rattle.shadow.proofs.Sizing.{Ranged, ranged, pool_room, Exact, exact}
-use Rattle.shadow.proofs.Accepted.{first_two, neither}
 use Rattle.tables.specs.SizesCode.{Sized}
 
 module _ (M : Machine) (map cr3s : List ℕ) (s : State) where
   abbrev sizes : Bool
   sizes = ranges_fit M && lengths_fit M map s.shadow s.slots && eqb (length cr3s) M.processors
-
-  pub setup_early : {n : ℕ} → n ≡ refusal (test 1 (not sizes) ∷ test 2 (not (frames_fit M map)) ∷ []) → (n ≡ 0 → ⊥) → n ≡ setup_refusal M map cr3s s
-  unfolding setup_refusal
-  setup_early en some =
-      en ∙ first_two (not sizes) (not (frames_fit M map)) (test 7 (not (cr3s_fit M.frames cr3s)) ∷ []) (λ q. some (en ∙ q))
 
   -- the facts behind the first two tests
   module _ (fits : sizes ≡ true) (frames : frames_fit M map ≡ true) where
@@ -54,17 +48,30 @@ module _ (M : Machine) (map cr3s : List ℕ) (s : State) where
         let g = both (pool_fits M && map_fits (2 ^ M.tables.frame_bits) map) (all (length map) (λ i. not (in_pool M (get_or map i 0)))) frames in
         pool_room M (both (pool_fits M) (map_fits (2 ^ M.tables.frame_bits) map) g.0).0
 
-  module _ (none : 0 ≡ refusal (test 1 (not sizes) ∷ test 2 (not (frames_fit M map)) ∷ [])) where
-    pub setup_shown : (sizes ≡ true) × (frames_fit M map ≡ true)
-    setup_shown = neither sizes (frames_fit M map) (sym none)
+  -- ---- test by test
 
-    pub setup_seven : cr3s_fit M.frames cr3s ≡ false → 7 ≡ setup_refusal M map cr3s s
-    unfolding setup_refusal refusal
-    setup_seven q = simp (setup_shown.0, setup_shown.1, q)
+  pub setup_sizes : (ranges_fit M && lengths_fit M map s.shadow s.slots) ≡ false → 1 ≡ setup_refusal M map cr3s s
+  unfolding setup_refusal refusal
+  setup_sizes q = simp q
 
-    pub setup_none : cr3s_fit M.frames cr3s ≡ true → 0 ≡ setup_refusal M map cr3s s
+  module _ (right : (ranges_fit M && lengths_fit M map s.shadow s.slots) ≡ true) where
+    pub setup_short : eqb (length cr3s) M.processors ≡ false → 1 ≡ setup_refusal M map cr3s s
     unfolding setup_refusal refusal
-    setup_none q = simp (setup_shown.0, setup_shown.1, q)
+    setup_short q = simp (right, q)
+
+    module _ (long : eqb (length cr3s) M.processors ≡ true) where
+      pub setup_map : frames_fit M map ≡ false → 2 ≡ setup_refusal M map cr3s s
+      unfolding setup_refusal refusal
+      setup_map q = simp (right, long, q)
+
+      -- the last test decides
+      pub setup_last : frames_fit M map ≡ true → {b : Bool} → b ≡ cr3s_fit M.frames cr3s → cond b 0 7 ≡ setup_refusal M map cr3s s
+      unfolding setup_refusal refusal
+      setup_last frames {b} q = ap (λ (x : Bool). cond x 0 7) q ∙ turned (cr3s_fit M.frames cr3s) ∙ sym (simp (right, long, frames))
+        where
+          turned : (x : Bool) → ◌≡◌ {A = ℕ} (cond x 0 7) (cond (not x) 7 0)
+          turned true = refl
+          turned false = refl
 
   module _ (ok : setup_refusal M map cr3s s ≡ 0) where
     pub accepted_sizes : (sizes ≡ true) × (frames_fit M map ≡ true)
@@ -74,10 +81,10 @@ module _ (M : Machine) (map cr3s : List ℕ) (s : State) where
         (not-false _ c.0, not-false _ c.1.0)
 
   -- the two ends of a setup
-  pub setup_refused : {n : ℕ} → n ≡ setup_refusal M map cr3s s → (n ≡ 0 → ⊥) → gives (Refused n) s ≡ after_setup M map cr3s s
+  pub setup_refused : {n : ℕ} → n ≡ setup_refusal M map cr3s s → 0 < n → refuses n s ≡ after_setup M map cr3s s
   unfolding after_setup
   setup_refused en some =
-      ap (λ (k : ℕ). gives (Refused k) s) en ∙ sym (simp (ne_eqb (setup_refusal M map cr3s s) 0 (λ q. some (en ∙ q))))
+      ap (λ (k : ℕ). refuses k s) en ∙ sym (simp (ne_eqb (setup_refusal M map cr3s s) 0 (λ q. omega (arith, en, q, some))))
 
   pub setup_done : setup_refusal M map cr3s s ≡ 0 → {pool records records' slots : List ℕ}
       → pool ≡ replicate (length s.shadow.pool) 0 → records ≡ replicate (length s.shadow.records) 0 → slots ≡ replicate (length s.slots) 0

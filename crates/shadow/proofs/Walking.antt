@@ -9,25 +9,24 @@ use native.Mathlib.Omega.{arith}
 use Rattle.paging.specs.declared.Guest.{Guest}
 use Rattle.paging.specs.declared.Request.{Request}
 use Rattle.paging.specs.declared.Walk.{Walk}
+use Rattle.paging.specs.declared.Stop.{Stop}
 use Rattle.paging.specs.declared.Stop.TheVariants.{Absent, Beyond, Complete}
 use Rattle.paging.specs.Layout.{Layout, get, put, index, with_a, rights_of}
 use Rattle.paging.specs.Request.{enough}
-use Rattle.paging.specs.Walk.{Step, start, step}
+use Rattle.paging.specs.Walk.{Step, base_of, start, step}
 use Rattle.paging.proofs.Rights.{meet_small}
 use Rattle.paging.proofs.Steps.{goes}
 use Rattle.tables.specs.State.{Machine, State, state_of, shadows, root_of}
 use Rattle.shadow.specs.declared.Answer.TheVariants.{Fault as Faulted, Again}
 use Rattle.shadow.specs.Access.{faulted}
-use Rattle.guest.specs.declared.Walked.{Walked}
-use Rattle.guest.specs.declared.Walked.TheVariants.{Whole, Fault}
-use Rattle.guest.specs.GuestWalk.{GuestWalk, guest_walk, by_step, walk_from, walk_guest, dirtied}
-use Rattle.shadow.specs.Answer.{Result, gives}
+use Rattle.guest.specs.GuestWalk.{Ended, whole, GuestWalk, guest_walk, by_step, walk_from, walk_guest, dirtied}
+use Rattle.shadow.specs.Answer.{Reply, gives}
 use Rattle.shadow.specs.Fill.{fill}
 use Rattle.shadow.specs.Access.{after_walk, after_miss}
 
-abbrev pub InRange : ℕ → Walked → Type 0
-InRange limit (Whole last w) = (last.0 < limit) × (w.rights < 8)
-InRange limit (Fault base) = base ≤ 9
+abbrev pub InRange : ℕ → Ended → Type 0
+InRange limit (Ok x) = (x.last.0 < limit) × (x.walk.rights < 8)
+InRange limit (Err stop) = base_of stop ≤ 9
 
 module _ (Y : Layout) (G page limit : ℕ) (most : G ≤ limit) where
   walk_range : (n : ℕ) (words : List ℕ) (last : Guest) (w : Walk) → last.0 < limit → w.frame.0 < limit → w.rights < 8
@@ -52,31 +51,31 @@ module _ (Y : Layout) (G page limit : ℕ) (most : G ≤ limit) where
       go (Err Beyond) q on = omega arith
       go (Err Complete) q on = (hl, hr)
 
-  pub guest_range : (words : List ℕ) (cr3 : Guest) → cr3.0 < limit → {words' : List ℕ} {r : Walked} → guest_walk words' r ≡ walk_guest Y G page words cr3 → InRange limit r
+  pub guest_range : (words : List ℕ) (cr3 : Guest) → cr3.0 < limit → {words' : List ℕ} {r : Ended} → guest_walk words' r ≡ walk_guest Y G page words cr3 → InRange limit r
   guest_range words cr3 h e =
       let q = ap (λ (d : GuestWalk). d.ended) e in
       rw q (walk_range Y.levels words cr3 (start Y cr3) h h (omega arith))
 
 module _ (M : Machine) (map : List ℕ) (p page : ℕ) (q : Request) (s : State) where
-  abbrev ends : GuestWalk → Result
+  abbrev ends : GuestWalk → Reply
   ends d = after_walk M map p page q (state_of d.words s.shadow s.slots) d.ended
 
-  module _ {root : ℕ} {cr3 : Guest} {words : List ℕ} {r : Walked} (er : root ≡ root_of M p) (ec : cr3 ≡ shadows s.shadow.records root)
+  module _ {root : ℕ} {cr3 : Guest} {words : List ℕ} {r : Ended} (er : root ≡ root_of M p) (ec : cr3 ≡ shadows s.shadow.records root)
       (ed : guest_walk words r ≡ walk_guest M.tables M.frames page s.words cr3) where
-    spelt : {r' : Walked} → r ≡ r' → ends (guest_walk words r') ≡ after_miss M map p page q s
+    spelt : {r' : Ended} → r ≡ r' → ends (guest_walk words r') ≡ after_miss M map p page q s
     unfolding after_miss
     spelt same =
-        ap (λ (x : Walked). ends (guest_walk words x)) (sym same)
+        ap (λ (x : Ended). ends (guest_walk words x)) (sym same)
         ∙ ap ends (ed ∙ ap (walk_guest M.tables M.frames page s.words) (ec ∙ ap (shadows s.shadow.records) er))
 
-    pub miss_fault : {base : ℕ} → r ≡ Fault base → gives (Faulted (base + q.adds)) (faulted M p page (state_of words s.shadow s.slots)) ≡ after_miss M map p page q s
+    pub miss_fault : {stop : Stop} → r ≡ Err stop → gives (Faulted (base_of stop + q.adds)) (faulted M p page (state_of words s.shadow s.slots)) ≡ after_miss M map p page q s
     miss_fault same = spelt same
 
-    pub miss_lacks : {last : Guest} {w : Walk} → r ≡ Whole last w → enough q w.rights ≡ false
+    pub miss_lacks : {last : Guest} {w : Walk} → r ≡ whole last w → enough q w.rights ≡ false
         → gives (Faulted (1 + q.adds)) (faulted M p page (state_of words s.shadow s.slots)) ≡ after_miss M map p page q s
     miss_lacks same lacks = simp lacks at (spelt same)
 
-    pub miss_fills : {last : Guest} {w : Walk} → r ≡ Whole last w → enough q w.rights ≡ true → {words' : List ℕ} {s' : State}
+    pub miss_fills : {last : Guest} {w : Walk} → r ≡ whole last w → enough q w.rights ≡ true → {words' : List ℕ} {s' : State}
         → words' ≡ dirtied M.tables q page last words → s' ≡ fill M map p page (state_of words' s.shadow s.slots)
         → gives Again s' ≡ after_miss M map p page q s
     miss_fills same serves ew es =

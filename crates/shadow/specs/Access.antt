@@ -1,17 +1,15 @@
 -- Access: a slot answers, or a shadow path, or the guest's tables are walked.
-use Rattle.std.specs.Prelude.{cond, ◌&&◌, List, ℕ, ◌+◌, ltb}
+use Rattle.std.specs.Prelude.{cond, ◌&&◌, List, ℕ, ◌+◌, ltb, Ok, Err}
 use Rattle.paging.specs.declared.Request.{Request}
 use Rattle.paging.specs.Frame.{guest, host, host_of, host_address}
 use Rattle.paging.specs.Layout.{page_of, frame_of, rights_of, is_present}
-use Rattle.paging.specs.Walk.{meet}
+use Rattle.paging.specs.Walk.{base_of, meet}
 use Rattle.paging.specs.Request.{request_of, enough}
-use Rattle.guest.specs.declared.Walked.{Walked}
-use Rattle.guest.specs.declared.Walked.TheVariants.{Whole, Fault}
 use Rattle.tables.specs.State.{Machine, State, state_of, shadows, root_of, next_entry, path_to}
 use Rattle.slots.specs.Slots.{slot_count, place_in, serving_slot}
-use Rattle.guest.specs.GuestWalk.{walk_guest, dirtied}
+use Rattle.guest.specs.GuestWalk.{Ended, walk_guest, dirtied}
 use Rattle.shadow.specs.declared.Answer.TheVariants.{Address, Fault as Faulted, Again}
-use Rattle.shadow.specs.Answer.{Result, gives}
+use Rattle.shadow.specs.Answer.{Reply, gives}
 use Rattle.shadow.specs.Fill.{fill}
 
 module _ (M : Machine) where
@@ -20,15 +18,15 @@ module _ (M : Machine) where
   faulted p page s = s
 
   -- "A fault answers kind 2 with the code"; "A completed walk that lacks a needed right gives base code 1."
-  abbrev pub after_walk : List ℕ → ℕ → ℕ → Request → State → Walked → Result
-  after_walk map p page q s (Fault base) = gives (Faulted (base + q.adds)) (faulted p page s)
-  after_walk map p page q s (Whole last w) =
-      cond (enough q w.rights)
-      (gives Again (fill M map p page (state_of (dirtied M.tables q page last s.words) s.shadow s.slots)))
+  abbrev pub after_walk : List ℕ → ℕ → ℕ → Request → State → Ended → Reply
+  after_walk map p page q s (Err stop) = gives (Faulted (base_of stop + q.adds)) (faulted p page s)
+  after_walk map p page q s (Ok x) =
+      cond (enough q x.walk.rights)
+      (gives Again (fill M map p page (state_of (dirtied M.tables q page x.last s.words) s.shadow s.slots)))
       (gives (Faulted (1 + q.adds)) (faulted p page s))
 
   -- "Else the guest tables are walked."
-  unfoldable pub after_miss : List ℕ → ℕ → ℕ → Request → State → Result
+  unfoldable pub after_miss : List ℕ → ℕ → ℕ → Request → State → Reply
   after_miss map p page q s =
       let cr3 = shadows s.shadow.records (root_of M p) in
       let d = walk_guest M.tables M.frames page s.words cr3 in
@@ -36,7 +34,7 @@ module _ (M : Machine) where
 
   -- "Access: the lowest slot with a complete walk of the page and enough rights answers; else a present shadow path with
   -- enough rights answers. Neither changes anything."
-  unfoldable pub after_access : List ℕ → ℕ → ℕ → ℕ → State → Result
+  unfoldable pub after_access : List ℕ → ℕ → ℕ → ℕ → State → Reply
   after_access map p a r s =
       let page = page_of M.tables a in
       let q = request_of M.tables r in

@@ -7,8 +7,8 @@ ghost use Rattle.shadow.specs.Answer.{gives};
 ghost use Rattle.shadow.specs.Moves.{after_store, leaf_cleared, after_invlpg, after_cr3, after_begin, place_below, after_extend, after_drop};
 ghost use Rattle.shadow.specs.ReadyCode.{Standing};
 
-use crate::{Answer, Place};
-use paging::{Guest, Host, Origin};
+use crate::Answer;
+use paging::{Guest, Host};
 use tables::Sizes;
 
 pub fn store(words: &mut [u64], a: u64, b: u64) -> Answer
@@ -20,6 +20,7 @@ pub fn store(words: &mut [u64], a: u64, b: u64) -> Answer
 }
 
 // Clears the page's level 1 entry, if one is reached.
+#[tactic(auto, unfolding(crate::specs::Moves::leaf_cleared))]
 fn clear_leaf(pool: &mut [u64], z: Sizes, p: u64, page: u64)
     requires { Sized z × (p < z.processors) }
     ensures { pool.new ≡ leaf_cleared (machine64 z) p page pool.old }
@@ -30,6 +31,7 @@ fn clear_leaf(pool: &mut [u64], z: Sizes, p: u64, page: u64)
     }
 }
 
+#[tactic(auto, unfolding(crate::specs::Moves::after_invlpg))]
 pub fn invlpg(pool: &mut [u64], slots: &mut [u64], z: Sizes, p: u64, a: u64) -> Answer
     requires { Sized z × (p < z.processors) × (slots_size * p + slots_size ≤ length slots.old) }
     ensures { (w records : List ℕ) → gives result (state_of w (shadow_of pool.new records) slots.new) ≡ after_invlpg (machine64 z) p a (state_of w (shadow_of pool.old records) slots.old) }
@@ -40,6 +42,7 @@ pub fn invlpg(pool: &mut [u64], slots: &mut [u64], z: Sizes, p: u64, a: u64) -> 
     Answer::Done
 }
 
+#[tactic(auto, unfolding(crate::specs::Moves::after_cr3))]
 pub fn write_cr3(
     pool: &mut [u64],
     records: &mut [u64],
@@ -58,6 +61,7 @@ pub fn write_cr3(
     Answer::Done
 }
 
+#[tactic(auto, unfolding(crate::specs::Moves::after_begin))]
 pub fn begin(slots: &mut [u64], z: Sizes, p: u64, a: u64, k: u64) -> Answer
     requires { Sized z × (p < z.processors) × (slots_size * p + slots_size ≤ length slots.old) × (k < slot_count) }
     ensures { (w : List ℕ) (h : Shadow) → gives result (state_of w h slots.new) ≡ after_begin (machine64 z) p a k (state_of w h slots.old) }
@@ -66,31 +70,26 @@ pub fn begin(slots: &mut [u64], z: Sizes, p: u64, a: u64, k: u64) -> Answer
     Answer::Done
 }
 
+#[tactic(auto, unfolding(crate::specs::Moves::after_drop))]
 pub fn drop_slot(slots: &mut [u64], p: u64, k: u64) -> Answer
     requires { (p < 4) × (slots_size * p + slots_size ≤ length slots.old) × (k < slot_count) }
     ensures { (w : List ℕ) (h : Shadow) → gives result (state_of w h slots.new) ≡ after_drop p k (state_of w h slots.old) }
 {
-    slots::set_slot(slots, p, k, 0, 0, 0, 0);
+    slots::empty_slot(slots, p, k);
     Answer::Done
 }
 
-// Where a walk moves to from an entry of a level: the guest frame or the table.
-fn place_below(map: &[u64], z: Sizes, level: u64, e: u64) -> Place
+// Where a walk moves to from an entry of a level: the guest frame or the table, if there is one.
+#[tactic(auto, unfolding(crate::specs::Moves::place_below))]
+fn place_below(map: &[u64], z: Sizes, level: u64, e: u64) -> Option<u64>
     requires { Sized z }
     ensures { result ≡ place_below (machine64 z) map.now level e }
 {
     if level == 1 {
-        return match paging::origin_of(map, Host(paging::frame_of(e))) {
-            Origin::Of(g) => Place::At(g.0),
-            Origin::Nowhere => Place::Off,
-        };
+        return paging::origin_of(map, Host(paging::frame_of(e))).map(|g| g.0);
     }
     let u = tables::named_by(z, e);
-    if u < tables::table_count(z) {
-        Place::At(u)
-    } else {
-        Place::Off
-    }
+    (u < tables::table_count(z)).then_some(u)
 }
 
 pub fn extend(map: &[u64], pool: &[u64], slots: &mut [u64], z: Sizes, p: u64, k: u64) -> Answer
@@ -107,12 +106,10 @@ pub fn extend(map: &[u64], pool: &[u64], slots: &mut [u64], z: Sizes, p: u64, k:
     if !paging::present(e) {
         return Answer::NoStep;
     }
+    let Some(place) = place_below(map, z, mark - 1, e) else {
+        return Answer::NoStep;
+    };
     let rights = paging::shared_rights(slots[at + 2] % 8, paging::rights_of(e));
-    match place_below(map, z, mark - 1, e) {
-        Place::At(place) => {
-            slots::set_slot(slots, p, k, mark - 1, page, place, rights);
-            Answer::Done
-        }
-        Place::Off => Answer::NoStep,
-    }
+    slots::set_slot(slots, p, k, mark - 1, page, place, rights);
+    Answer::Done
 }

@@ -1,5 +1,5 @@
 -- "8 hardware TLB slots": where a slot stands and what it says, which one serves an access, and the flush of a page.
-use Rattle.std.specs.Prelude.{Bool, cond, ◌&&◌, ◌||◌, List, ℕ, ◌+◌, ◌*◌, ◌/◌, ◌%◌, eqb, ltb, get_or, set}
+use Rattle.std.specs.Prelude.{Bool, cond, ◌&&◌, ◌||◌, List, ℕ, ◌+◌, ◌*◌, ◌/◌, ◌%◌, ◌<◌, ◌≤◌, eqb, ltb, length, get_or, set}
 use Rattle.paging.specs.declared.Request.{Request}
 use Rattle.paging.specs.Request.{enough}
 use Rattle.paging.specs.Numbers.{each, first}
@@ -15,6 +15,10 @@ slot_size = 3
 -- "slots 24×P": the numbers of one processor
 abbrev pub slots_size : ℕ
 slots_size = slot_count * slot_size
+
+-- p is one of four processors, and its numbers are there
+abbrev pub HasSlots : ℕ → List ℕ → Type 0
+HasSlots p slots = (p < 4) × (slots_size * p + slots_size ≤ length slots)
 
 -- slot k of p: where it stands, and what it says
 abbrev pub slot_at : ℕ → ℕ → ℕ

@@ -1,12 +1,9 @@
 -- At every turn the numbers that are left, after those in the buffer, give what all of them gave at the start.
-use Rattle.std.proofs.Common.{◌≡◌, ◌*◌, ◌-◌}
+use Rattle.std.proofs.Common.{◌*◌}
 use Rattle.sections.specs.Sections.{width, in_range}
 use Rattle.sections.proofs.Numbers.{Turned}
 use Rattle.sections.proofs.read_numbers.Given as goal
 
 abbrev pub invariant-loop-i : goal.invariant-loop-i
 invariant-loop-i l =
-    (l.n ≡ l.count * width l.which) × Turned (in_range l.which l.g l.p) l.text l.initial.buffer l.initial.c.at l.n l.buffer l.i l.c
-
-abbrev pub decreases-loop-i : goal.decreases-loop-i
-decreases-loop-i l = l.n - l.i
+    Turned (in_range l.which l.g l.p) l.text l.initial.buffer l.initial.c.at (l.count * width l.which) l.buffer l.i l.c

@@ -1,43 +1,43 @@
 -- A call that is refused changes nothing; one that is accepted is ready for its step.
-use mathlib.Core.Path.{sym, ap, ◌∙◌}
-use Prim.Native.Nat.{ℕ}
-use borrow.Author.Tests.{eq-eqb, ne_eqb}
+use mathlib.Core.Path.{◌≡◌, sym, ap, ◌∙◌}
+use mathlib.Core.Logic.{⊎_elim}
+use Prim.Native.Nat.{◌<◌}
+use native.Mathlib.Omega.{arith}
+use Rattle.std.proofs.Common.{rules, Result, Err}
+use borrow.Author.Tests.{eq-eqb}
+use Rattle.rules.specs.declared.Refusal.{Refusal}
+use Rattle.rules.proofs.Refusals.{some_number}
 use Rattle.tables.specs.State.{shadow_of, state_of, machine64}
-use Rattle.shadow.specs.declared.Answer.TheVariants.{Refused}
-use Rattle.shadow.specs.Answer.{gives}
+use Rattle.shadow.specs.declared.Answer.{Answer}
+use Rattle.shadow.specs.Answer.{by_number, replies}
 use Rattle.shadow.specs.Refusals.{call_refusal}
 use Rattle.shadow.specs.After.{after}
-use Rattle.shadow.proofs.Accepted.{ready, fitting}
+use Rattle.shadow.proofs.Accepted.{call_refused, ready, fitting}
 use Rattle.shadow.proofs.event.Goals as goal
 
-pub returns-then-n-ne0 : goal.returns-then-n-ne0
-unfolding after
-returns-then-n-ne0 c =
+pub returns-in_err-test_call : goal.returns-in_err-test_call
+returns-in_err-test_call c =
     let a = c.args in
-    let n = c.call_refusal-n.ensures in
-    simp (ne_eqb (call_refusal (machine64 a.z) a.map.now (state_of a.words.now (shadow_of a.pool.now a.records.now) a.slots.now) a.e) 0 (λ q. c.if-n-ne0.true (n ∙ q)))
-    (ap (λ (k : ℕ). gives (Refused k) (state_of a.words.now (shadow_of a.pool.now a.records.now) a.slots.now)) n)
+    let s = state_of a.words.now (shadow_of a.pool.now a.records.now) a.slots.now in
+    let q : c.from_residual.result ≡ Err c.in_err-test_call.field-0.0 = search rules in
+    ap (λ (r : Result Answer Refusal). replies (by_number r) s) q
+    ∙ call_refused (machine64 a.z) a.map.now s a.e c.in_err-test_call.ensures (some_number c.in_err-test_call.field-0.0)
 
-pub take_step-requires : goal.take_step-requires
-take_step-requires c =
+-- an accepted event has a kind
+pub returns-in_err-kind : goal.returns-in_err-kind
+returns-in_err-kind c =
     let a = c.args in
-    let ok = sym c.call_refusal-n.ensures ∙ c.if-n-ne0.false in
-    record { ready = ready a.z a.map.now (state_of a.words.now (shadow_of a.pool.now a.records.now) a.slots.now) a.e ok; fitting = fitting a.z a.map.now (state_of a.words.now (shadow_of a.pool.now a.records.now) a.slots.now) a.e ok }
+    let f = fitting a.z a.map.now (state_of a.words.now (shadow_of a.pool.now a.records.now) a.slots.now) a.e (sym c.in_ok-test_call.ensures) in
+    absurd (⊎_elim (λ (z : a.e.kind ≡ 0). omega (arith, f.kind)) (λ (l : 7 < a.e.kind). omega (arith, f.kind)) c.in_err-kind.ensures.1)
 
-pub shape_of-words : goal.shape_of-words
-shape_of-words c = c.take_step.auto.words
+pub take_step-requires-clause-ready : goal.take_step-requires-clause-ready
+take_step-requires-clause-ready c = let a = c.args in ready a.z a.map.now (state_of a.words.now (shadow_of a.pool.now a.records.now) a.slots.now) a.e (sym c.in_ok-test_call.ensures)
 
-pub shape_of-pool : goal.shape_of-pool
-shape_of-pool c = c.take_step.auto.pool
-
-pub shape_of-records : goal.shape_of-records
-shape_of-records c = c.take_step.auto.records
-
-pub shape_of-slots : goal.shape_of-slots
-shape_of-slots c = c.take_step.auto.slots
+pub take_step-requires-clause-fitting : goal.take_step-requires-clause-fitting
+take_step-requires-clause-fitting c = let a = c.args in fitting a.z a.map.now (state_of a.words.now (shadow_of a.pool.now a.records.now) a.slots.now) a.e (sym c.in_ok-test_call.ensures)
 
 pub returns : goal.returns
 unfolding after
 returns c =
     let a = c.args in
-    simp (eq-eqb (call_refusal (machine64 a.z) a.map.now (state_of a.words.now (shadow_of a.pool.now a.records.now) a.slots.now) a.e) 0 (sym c.call_refusal-n.ensures ∙ c.if-n-ne0.false)) c.take_step.ensures
+    simp (eq-eqb (call_refusal (machine64 a.z) a.map.now (state_of a.words.now (shadow_of a.pool.now a.records.now) a.slots.now) a.e) 0 (sym c.in_ok-test_call.ensures)) c.take_step.ensures

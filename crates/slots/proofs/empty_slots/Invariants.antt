@@ -1,13 +1,8 @@
 -- The slots below k are done.
-use mathlib.Core.Path.{◌≡◌}
-use Prim.Native.Nat.{◌-◌, ◌≤◌}
-use lib.ListN.{length}
+use Rattle.std.proofs.Common.{◌≡◌}
 use Rattle.paging.specs.Numbers.{each}
 use Rattle.slots.specs.Slots.{emptied}
 use Rattle.slots.proofs.empty_slots.Given as goal
 
 abbrev pub invariant-loop-k : goal.invariant-loop-k
-invariant-loop-k l = (l.k ≤ 8) × (length l.slots ≡ length l.initial.slots) × (l.slots ≡ each l.k (emptied l.p) l.initial.slots)
-
-abbrev pub decreases-loop-k : goal.decreases-loop-k
-decreases-loop-k l = 8 - l.k
+invariant-loop-k l = l.slots ≡ each l.k (emptied l.p) l.initial.slots

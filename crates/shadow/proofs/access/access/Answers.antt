@@ -1,5 +1,5 @@
 -- Three ways out: a slot, the shadow path, a miss.
-use mathlib.Core.Path.{◌≡◌, sym, ap, ◌∙◌, subst⁻¹}
+use mathlib.Core.Path.{◌≡◌, refl, sym, ap, ◌∙◌, subst⁻¹}
 use Prim.Native.Nat.{ℕ, ◌+◌, ◌/◌, ◌<◌, ◌≤◌}
 use native.Mathlib.Omega.{arith}
 use lib.ListN.{get_or}
@@ -34,22 +34,22 @@ index_is c on = c.index_of.ensures ∙ ap (index tables64 c.page_of-page.result)
 pub request_of-q-requires : goal.request_of-q-requires
 request_of-q-requires c = c.requires.request_bound
 
-pub serving_slot-k-requires : goal.serving_slot-k-requires
-serving_slot-k-requires c = (omega (arith, c.requires.ready.own, c.requires.ready.sized.processors), c.requires.ready.triples, needs-of (goal.at.serving_slot-k-requires c).After-request_of-q)
+pub serving_slot-requires : goal.serving_slot-requires
+serving_slot-requires c = ((omega (arith, c.requires.ready.own, c.requires.ready.sized.processors), c.requires.ready.triples), needs-of (goal.at.serving_slot-requires c).After-request_of-q)
 
-pub slot_at-at-requires : goal.slot_at-at-requires
-slot_at-at-requires c = (omega (arith, c.requires.ready.own, c.requires.ready.sized.processors), c.if-k-lt-SLOTS.true)
+pub slot_at-requires : goal.slot_at-requires
+slot_at-requires c = (omega (arith, c.requires.ready.own, c.requires.ready.sized.processors), c.in-Some.ensures.0)
 
 pub host_address-requires : goal.host_address-requires
-host_address-requires c = omega (arith, ap (λ (h : Host). h.0) c.host_of.ensures, c.requires.ready.hosts (get_or c.args.slots.now (c.slot_at-at.result + 2) 0 / 8))
+host_address-requires c = omega (arith, ap (λ (h : Host). h.0) c.host_of.ensures, c.requires.ready.hosts (get_or c.args.slots.now (c.slot_at.result + 2) 0 / 8))
 
-pub returns-then-k-lt-SLOTS : goal.returns-then-k-lt-SLOTS
-returns-then-k-lt-SLOTS c =
+pub returns-in-Some : goal.returns-in-Some
+returns-in-Some c =
     let a = c.args in
     access_slot (machine64 a.z) a.map.now a.p a.a a.request (state_of a.words.now (shadow_of a.pool.now a.records.now) a.slots.now)
-    c.page_of-page.ensures c.request_of-q.ensures c.serving_slot-k.ensures c.if-k-lt-SLOTS.true
+    c.page_of-page.ensures c.request_of-q.ensures c.in-Some.ensures.1 c.in-Some.ensures.0
     (c.host_address.ensures
-    ∙ ap (λ (h : Host). host_address h a.a) (c.host_of.ensures ∙ ap (λ (x : ℕ). host_of a.map.now (guest (get_or a.slots.now (x + 2) 0 / 8))) c.slot_at-at.ensures))
+    ∙ ap (λ (h : Host). host_address h a.a) (c.host_of.ensures ∙ ap (λ (x : ℕ). host_of a.map.now (guest (get_or a.slots.now (x + 2) 0 / 8))) c.slot_at.ensures))
 
 pub path_to-w-requires : goal.path_to-w-requires
 path_to-w-requires c = (c.requires.ready.sized, c.requires.ready.own, omega arith)
@@ -67,7 +67,7 @@ pub returns-then-path_serves : goal.returns-then-path_serves
 returns-then-path_serves c =
     let a = c.args in
     access_path (machine64 a.z) a.map.now a.p a.a a.request (state_of a.words.now (shadow_of a.pool.now a.records.now) a.slots.now)
-    c.page_of-page.ensures c.request_of-q.ensures c.serving_slot-k.ensures c.if-k-lt-SLOTS.false
+    c.page_of-page.ensures c.request_of-q.ensures refl c.in_default.ensures
     c.path_to-w.result _ _ c.path_to-w.ensures (index_is (goal.at.returns-then-path_serves c).After-index_of (on-path (goal.at.returns-then-path_serves c).After-path_to-w)) c.entry_at-e.ensures
     (sym c.path_serves.ensures ∙ c.if-path_serves.true)
     (c.host_address-then-path_serves.ensures ∙ ap (λ (f : ℕ). host_address (host f) a.a) c.frame_of.ensures)
@@ -79,7 +79,7 @@ pub returns : goal.returns
 returns c =
     let a = c.args in
     access_miss (machine64 a.z) a.map.now a.p a.a a.request (state_of a.words.now (shadow_of a.pool.now a.records.now) a.slots.now)
-    c.page_of-page.ensures c.request_of-q.ensures c.serving_slot-k.ensures c.if-k-lt-SLOTS.false
+    c.page_of-page.ensures c.request_of-q.ensures refl c.in_default.ensures
     c.path_to-w.result _ _ c.path_to-w.ensures (index_is (goal.at.returns c).After-index_of (on-path (goal.at.returns c).After-path_to-w)) c.entry_at-e.ensures
     (sym c.path_serves.ensures ∙ c.if-path_serves.false)
     c.miss.ensures

@@ -29,9 +29,6 @@ returns-then-mark-lt2 c w records =
     let a = c.args in
     extend_early (machine64 a.z) a.map.now a.p a.k (state_of w (shadow_of a.pool.now records) a.slots.now) (mark-is (goal.at.returns-then-mark-lt2 c).After-slot_at-at) c.if-mark-lt2.true
 
-pub index_of-requires : goal.index_of-requires
-index_of-requires c = omega (arith, mark-is (goal.at.index_of-requires c).After-slot_at-at, c.requires.5.level, c.if-mark-lt2.false)
-
 pub entry_at-e-requires : goal.entry_at-e-requires
 entry_at-e-requires c =
     let a = c.args in
@@ -54,34 +51,33 @@ pub set_slot-requires : goal.set_slot-requires
 set_slot-requires c =
     let a = c.args in
     let q = a.slots.now in
-    let small = place_small (machine64 a.z) a.map.now (get_or q c.slot_at-at.result 0 - 1) c.entry_at-e.result c.in-At.place (sym c.place_below.ensures ∙ c.in-At.is) in (
-      omega (arith, c.requires.0.processors),
+    let small = place_small (machine64 a.z) a.map.now (get_or q c.slot_at-at.result 0 - 1) c.entry_at-e.result c.in-Some.place (sym c.place_below.ensures ∙ c.in-Some.is) in (
+      (omega (arith, c.requires.0.processors), c.requires.2),
       c.requires.3,
-      c.requires.2,
       omega (arith, small, c.requires.4, few c.requires.0),
       omega (arith, c.shared_rights-rights.ensures, meet_small (get_or q (c.slot_at-at.result + 2) 0 % 8) c.rights_of.result),
     )
 
-pub returns-in-At : goal.returns-in-At
-returns-in-At c w records =
+pub returns-in_default : goal.returns-in_default
+returns-in_default c w records =
+    let a = c.args in
+    extend_off (machine64 a.z) a.map.now a.p a.k (state_of w (shadow_of a.pool.now records) a.slots.now) (mark-is (goal.at.returns-in_default c).After-slot_at-at) _ _ _ _
+    (page_is (goal.at.returns-in_default c).After-slot_at-at) (third-is (goal.at.returns-in_default c).After-slot_at-at) c.index_of.ensures c.entry_at-e.ensures c.if-mark-lt2.false
+    (sym c.present.ensures ∙ c.if-not-present.false)
+    c.place_below.ensures c.in_default.is
+
+pub returns : goal.returns
+returns c w records =
     let written = c.set_slot.ensures in
     let shared = c.shared_rights-rights.ensures in
     let rights = c.rights_of.ensures in
     let below = c.place_below.ensures in
-    let found = c.in-At.is in
+    let found = c.in-Some.is in
     let is-present = sym c.present.ensures ∙ c.if-not-present.false in
     let entry = c.entry_at-e.ensures in
     let index = c.index_of.ensures in
     let partial = c.if-mark-lt2.false in
     let a = c.args in
     let third = get_or a.slots.now (c.slot_at-at.result + 2) 0 in
-    extend_on (machine64 a.z) a.map.now a.p a.k (state_of w (shadow_of a.pool.now records) a.slots.now) (mark-is (goal.at.returns-in-At c).After-slot_at-at) _ third _ _
-    (page_is (goal.at.returns-in-At c).After-slot_at-at) (third-is (goal.at.returns-in-At c).After-slot_at-at) index entry partial is-present below found (shared ∙ ap (meet (third % 8)) rights) written
-
-pub returns-in-Off : goal.returns-in-Off
-returns-in-Off c w records =
-    let a = c.args in
-    extend_off (machine64 a.z) a.map.now a.p a.k (state_of w (shadow_of a.pool.now records) a.slots.now) (mark-is (goal.at.returns-in-Off c).After-slot_at-at) _ _ _ _
-    (page_is (goal.at.returns-in-Off c).After-slot_at-at) (third-is (goal.at.returns-in-Off c).After-slot_at-at) c.index_of.ensures c.entry_at-e.ensures c.if-mark-lt2.false
-    (sym c.present.ensures ∙ c.if-not-present.false)
-    c.place_below.ensures c.in-Off.is
+    extend_on (machine64 a.z) a.map.now a.p a.k (state_of w (shadow_of a.pool.now records) a.slots.now) (mark-is (goal.at.returns c).After-slot_at-at) _ third _ _
+    (page_is (goal.at.returns c).After-slot_at-at) (third-is (goal.at.returns c).After-slot_at-at) index entry partial is-present below found (shared ∙ ap (meet (third % 8)) rights) written
