@@ -1,11 +1,11 @@
 -- What the list call leaves is the right list, and its pairs are written as the rendering says.
-use Rattle.std.specs.Prelude.{Ok, Err}
+use Rattle.std.specs.Prelude.{Result, Ok, Err}
 use mathlib.Core.Path.{◌≡◌, refl, ap, ap₂, ◌∙◌, subst}
 use mathlib.Core.Logic.{◌⊎◌, inl, inr}
 use mathlib.Core.Bool.{Bool, true, false, cond}
 use mathlib.Core.List.Memᴰ
 use mathlib.Core.List.{List, [], ◌∷◌, ◌++◌, Memᴰ}
-use Prim.Native.Nat.{ℕ, zero, suc, ◌+◌, ◌*◌, ◌/◌, ◌^◌, ◌<◌}
+use Prim.Native.Nat.{ℕ, zero, suc, ◌+◌, ◌*◌, ◌/◌, ◌^◌, ◌<◌, ◌≤◌}
 use native.Mathlib.Omega.{arith}
 use lib.ListN.{length, take, drop, get_or, replicate, length-append, length-drop, length-replicate}
 use lib.Seq.{take_at}
@@ -25,7 +25,7 @@ use Rattle.rules.specs.View.{view_of, never}
 use Rattle.rules.specs.Outcome.{given}
 use Rattle.rules.proofs.Steps.{held_is_kept, kept_inside}
 use Rattle.rules.proofs.Theorems.{view_coherent, view-rooted}
-use Rattle.listing.specs.declared.Listed.{Listed}
+use Rattle.rules.specs.declared.Refusal.{Refusal}
 use Rattle.listing.specs.Call.{Asked, Lent, asked, lent, count_of, pairs, ListCall}
 use Rattle.rules.specs.Numbers.{events_of}
 use Rattle.listing.proofs.Pairs.{pairs-length}
@@ -33,13 +33,20 @@ use Rattle.puzzle.specs.Buffers.{Buffers}
 use Rattle.render.specs.Render.{line, render_outcomes, render_question}
 use Rattle.render.specs.LinesCode.{pair_line, pair_lines, question_lines, Mapped, AllMapped}
 use Rattle.trainer.specs.Answers.{RightOf}
-use Rattle.trainer.specs.PartsCode.{Posed, Found}
+use Rattle.trainer.specs.PartsCode.{Posed}
 use Rattle.listing.proofs.Accepts as accepts
 
 -- ---- the list call
 
+-- the right list stands in front of the outcomes
+pub record Found (b : Buffers) (q : Question) (count : ℕ) (outcomes : List ℕ) : Type 0 where
+  pub list : List Outcome
+  pub right : RightOf b.map b.cr3s b.words b.events q list
+  pub within : 2 * count ≤ 38
+  pub stands : take (2 * count) outcomes ≡ pairs list
+
 module _ (b : Buffers) (q : Question) (p : Posed b q) where
-  pub found : (words work outcomes : List ℕ) → length work ≡ 640 → length outcomes ≡ 38 → words ≡ b.words → (r : Listed) (n : ℕ) → n ≡ count_of r
+  pub found : (words work outcomes : List ℕ) → length work ≡ 640 → length outcomes ≡ 38 → words ≡ b.words → (r : Result ℕ Refusal) (n : ℕ) → n ≡ count_of r
       → (after : Lent) → length after.outcomes ≡ length outcomes → ListCall (asked b.map b.cr3s b.events q) (lent words work outcomes) r after
       → Found b q n after.outcomes
   found words work outcomes long pairs-long e r n c after kept call =

@@ -10,9 +10,7 @@ use lib.Seq.{take_at}
 use borrow.Author.Tests.{eq-eqb}
 use Rattle.paging.specs.Layout.{frame_words}
 use Rattle.sections.specs.Sections.{Got, got, refused, Puzzle, puzzle_of}
-use Rattle.puzzle.specs.declared.ReadResult.{ReadResult}
-use Rattle.puzzle.specs.declared.ReadResult.TheVariants.{Accepted, Refused}
-use Rattle.puzzle.specs.Buffers.{Buffers, buffers, After, after, laid, words_of, answer, read_call}
+use Rattle.puzzle.specs.Buffers.{ReadResult, Accepted, Refused, Buffers, buffers, After, after, laid, words_of, answer, read_call}
 use Rattle.puzzle.specs.PartsCode.{Lengths}
 use Rattle.puzzle.proofs.Accepted.{accepted}
 use Rattle.render.specs.declared.Printer.{Printer}

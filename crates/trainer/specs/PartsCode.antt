@@ -1,6 +1,7 @@
 -- What the functions below `answers` and `run` ask for and leave.
-use Rattle.std.specs.Prelude.{◌≡◌, List, [], ℕ, ◌+◌, ◌*◌, ◌/◌, ◌^◌, ◌≤◌, ◌<◌, length, take, get_or}
+use Rattle.std.specs.Prelude.{Result, ◌≡◌, List, [], ℕ, ◌+◌, ◌*◌, ◌/◌, ◌^◌, ◌≤◌, ◌<◌, length, take, get_or}
 use Rattle.rules.specs.declared.Event.{Event}
+use Rattle.rules.specs.declared.Refusal.{Refusal}
 use Rattle.rules.specs.declared.Question.{Question}
 use Rattle.rules.specs.declared.Outcome.{Outcome}
 use Rattle.listing.specs.Call.{asked, lent, list_refusal, pairs}
@@ -11,7 +12,7 @@ use Rattle.render.specs.Render.{render_question}
 use Rattle.render.specs.WrittenCode.{Puts}
 use Rattle.tables.specs.State.{Machine, machine64, State, shadow_of, state_of}
 use Rattle.shadow.specs.declared.Answer.{Answer}
-use Rattle.shadow.specs.Answer.{gives}
+use Rattle.shadow.specs.Answer.{by_number, replies}
 use Rattle.shadow.specs.After.{after}
 use Rattle.shadow.specs.Setup.{after_setup}
 use Rattle.sections.specs.Sizes.{words_size, events_size, questions_size}
@@ -20,7 +21,7 @@ use Rattle.trainer.specs.declared.Lists.{Lists}
 use Rattle.trainer.specs.declared.Session.{Session}
 use Rattle.trainer.specs.declared.Program.{Program}
 use Rattle.trainer.specs.declared.Program.TheVariants.{Answers, Run}
-use Rattle.trainer.specs.Call.{joined, puzzle_in, told_of, Lines, Prints, output_size}
+use Rattle.trainer.specs.Call.{joined, puzzle_in, text_told, told_of, Lines, Prints, output_size}
 use Rattle.trainer.specs.Answers.{RightOf, AnswersOf}
 use Rattle.trainer.specs.Run.{event_line, RunOf, Startable}
 
@@ -37,13 +38,6 @@ module _ (b : Buffers) (q : Question) where
     pub taken : (work outcomes : List ℕ) → length work ≡ 640 → length outcomes ≡ 38 → list_refusal (asked b.map b.cr3s b.events q) (lent b.words work outcomes) ≡ 0
     pub hosts : (f : ℕ) → f < length b.map → get_or b.map f 0 < 2 ^ 40
 
-  -- the right list stands in front of the outcomes
-  pub record Found (count : ℕ) (outcomes : List ℕ) : Type 0 where
-    pub list : List Outcome
-    pub right : RightOf b.map b.cr3s b.words b.events q list
-    pub within : 2 * count ≤ 38
-    pub stands : take (2 * count) outcomes ≡ pairs list
-
   -- the lines of the question were written
   pub record Answered (before after : Printer) : Type 0 where
     pub list : List Outcome
@@ -58,16 +52,16 @@ state_in s = state_of s.words.now (shadow_of s.pool.now s.records.now) s.slots.n
 
 -- setup was called, and the words and what the machine is made for stay
 pub record Started (cr3s : List ℕ) (before after : Session) : Type 0 where
-  pub answer : Answer
-  pub call : gives answer (state_of [] (shadow_of after.pool.now after.records.now) after.slots.now)
+  pub answer : Result Answer ℕ
+  pub call : replies answer (state_of [] (shadow_of after.pool.now after.records.now) after.slots.now)
       ≡ after_setup (machine64 before.sizes) before.map.now cr3s (state_of [] (shadow_of before.pool.now before.records.now) before.slots.now)
   pub words : after.words.now ≡ before.words.now
   pub sizes : after.sizes ≡ before.sizes
   pub map : after.map.now ≡ before.map.now
 
 -- one event was taken
-pub record Stepped (e : Event) (before : Session) (r : Answer) (next : Session) : Type 0 where
-  pub call : gives r (state_in next) ≡ after (machine64 before.sizes) before.map.now (state_in before) e
+pub record Stepped (e : Event) (before : Session) (r : Result Answer Refusal) (next : Session) : Type 0 where
+  pub call : replies (by_number r) (state_in next) ≡ after (machine64 before.sizes) before.map.now (state_in before) e
   pub sizes : next.sizes ≡ before.sizes
   pub map : next.map.now ≡ before.map.now
 
@@ -97,6 +91,6 @@ pub record AllPut (Of : Lines) (b : Buffers) (before after : Printer) : Type 0 w
 pub record PrintedTo (Of : Lines) (text : List ℕ) (r : Written) (before after : Printer) : Type 0 where
   pub bytes : List ℕ
   pub prints : Prints Of (puzzle_in text) bytes
-  pub counted : r ≡ told_of (puzzle_in text) (length bytes)
+  pub counted : text_told r ≡ told_of (puzzle_in text) (length bytes)
   pub puts : Puts bytes before after
   pub few : after.at ≤ before.at + output_size

@@ -6,24 +6,22 @@ ghost use Rattle.rules.specs.Numbers.{question_of};
 ghost use Rattle.tables.specs.State.{machine64};
 ghost use Rattle.render.specs.WrittenCode.{HasRoom};
 ghost use Rattle.sections.specs.Sizes.{words_size, events_size};
-ghost use Rattle.trainer.specs.Call.{Call, bytes_of, output_size};
+ghost use Rattle.trainer.specs.Call.{Call, told, bytes_of, output_size};
 ghost use Rattle.trainer.specs.Answers.{AnswersOf};
 ghost use Rattle.trainer.specs.Run.{RunOf};
-ghost use Rattle.trainer.specs.PartsCode.{LinesOf, lists_of, state_in, Posed, Found, Answered, Started, Stepped, EventsPut, Printable, AllPut, PrintedTo};
+ghost use Rattle.trainer.specs.PartsCode.{LinesOf, lists_of, state_in, Posed, Answered, Started, Stepped, EventsPut, Printable, AllPut, PrintedTo};
 
-use listing::Listed;
-use puzzle::ReadResult;
 use render::Printer;
-use rules::{Event, Question};
+use rules::{Event, Question, Refusal};
+use sections::TextFault;
 use shadow::Answer;
 use tables::Sizes;
 
-// The number of bytes written for an accepted text; a refused text's number, line and bytes; or why the call was refused.
+// The number of bytes written: the lines of an accepted text, or why the text was refused.
 #[derive(Clone, Copy)]
 pub enum Written {
-    Bytes(u64),
-    RefusedText(u64, u64, u64),
-    Refused(u64),
+    Lines(u64),
+    Refused(TextFault, u64),
 }
 
 // Room for every output.
@@ -42,13 +40,13 @@ const RECORDS: usize = SHARE_RECORDS * sections::MOST_PROCESSORS;
 
 const SLOTS: usize = SHARE_SLOTS * sections::MOST_PROCESSORS;
 
-pub fn bytes_of(r: Written) -> u64
-    ensures { result ≡ bytes_of r }
+// None for a refused call.
+pub fn bytes_of(r: Result<Written, Refusal>) -> u64
+    ensures { result ≡ bytes_of (told r) }
 {
     match r {
-        Written::Bytes(n) => n,
-        Written::RefusedText(_, _, n) => n,
-        Written::Refused(_) => 0,
+        Ok(Written::Lines(n) | Written::Refused(_, n)) => n,
+        Err(_) => 0,
     }
 }
 
@@ -76,22 +74,16 @@ impl Program {
             &mut events,
             &mut questions,
         ) {
-            ReadResult::Refused(number, line) => {
-                printer.put_line(b'R', &[number, line]);
-                Written::RefusedText(number, line, printer.len() as u64)
+            Err(fault) => {
+                printer.put_line(b'R', &[u64::from(fault.refusal), fault.line]);
+                Written::Refused(fault, printer.len() as u64)
             }
-            ReadResult::Accepted {
-                frames,
-                processors,
-                words: _,
-                events: e,
-                questions: q,
-            } => {
-                let map = front(&map, 1, frames);
-                let cr3s = front(&cr3s, 1, processors);
-                let words = front(&words, paging::FRAME_WORDS, frames);
-                let events = front(&events, 4, e);
-                let questions = front(&questions, 3, q);
+            Ok(counts) => {
+                let map = front(&map, 1, counts.frames);
+                let cr3s = front(&cr3s, 1, counts.processors);
+                let words = front(&words, paging::FRAME_WORDS, counts.frames);
+                let events = front(&events, 4, counts.events);
+                let questions = front(&questions, 3, counts.questions);
                 let lists = Lists {
                     map,
                     cr3s,
@@ -100,7 +92,7 @@ impl Program {
                     questions,
                 };
                 self.put(&lists, printer);
-                Written::Bytes(printer.len() as u64)
+                Written::Lines(printer.len() as u64)
             }
         }
     }
@@ -130,34 +122,25 @@ impl Lists<'_> {
     // ---- answers
 
     // The list call leaves the stores done in the words, so each question takes a copy of the puzzle's own.
-    fn ask(&self, outcomes: &mut [u64; 38], q: Question) -> u64
-        requires { (length self.now.words.now ≤ words_size) × Posed (lists_of self.now) q }
-        ensures { Found (lists_of self.now) q result outcomes.new }
+    fn put_answer(&self, printer: &mut Printer<'_>, q: Question)
+        requires { HasRoom printer.old 922 × (length self.now.words.now ≤ words_size) × Posed (lists_of self.now) q }
+        ensures { Answered (lists_of self.now) q printer.old printer.new }
     {
-        let mut work = [0u8; 640];
         let mut buffer = [0u64; sections::WORDS_SIZE];
         let words = &mut buffer[..self.words.len()];
         words.copy_from_slice(self.words);
-        match listing::list(
+        let mut work = [0u8; 640];
+        let mut outcomes = [0u64; 38];
+        let count = listing::list(
             self.map,
             words,
             self.cr3s,
             self.events,
             &mut work,
-            outcomes,
+            &mut outcomes,
             q,
-        ) {
-            Listed::Count(n) => n,
-            Listed::Refused(_) => 0,
-        }
-    }
-
-    fn put_answer(&self, printer: &mut Printer<'_>, q: Question)
-        requires { HasRoom printer.old 922 × (length self.now.words.now ≤ words_size) × Posed (lists_of self.now) q }
-        ensures { Answered (lists_of self.now) q printer.old printer.new }
-    {
-        let mut outcomes = [0u64; 38];
-        let count = self.ask(&mut outcomes, q) as usize;
+        )
+        .unwrap_or(0) as usize;
         printer.put_question(self.map, q, &outcomes[..2 * count]);
     }
 
@@ -233,7 +216,7 @@ impl Session<'_> {
         );
     }
 
-    fn event(&mut self, e: Event) -> Answer
+    fn event(&mut self, e: Event) -> Result<Answer, Refusal>
         ensures { Stepped e self.old result self.new }
     {
         shadow::event(
@@ -268,12 +251,10 @@ fn front(buffer: &[u64], size: usize, n: u64) -> &[u64]
 }
 
 // The lines of a program for a text, or `R number line`.
-pub fn print(text: &[u8], output: &mut [u8], program: Program) -> Written
-    ensures { Call (LinesOf program) text.now output.old result output.new }
+pub fn print(text: &[u8], output: &mut [u8], program: Program) -> Result<Written, Refusal>
+    ensures { Call (LinesOf program) text.now output.old (told result) output.new }
 {
-    if output.len() != OUTPUT_SIZE {
-        return Written::Refused(1);
-    }
+    rules::unless(output.len() == OUTPUT_SIZE, Refusal::WrongSizes)?;
     let mut printer = Printer::new(output);
-    program.print(text, &mut printer)
+    Ok(program.print(text, &mut printer))
 }
