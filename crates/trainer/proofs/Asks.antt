@@ -1,5 +1,6 @@
 -- What the list call leaves is the right list, and its pairs are written as the rendering says.
 use Rattle.std.specs.Prelude.{Result, Ok, Err}
+use Rattle.std.specs.Result.{result_unwrap_or}
 use mathlib.Core.Path.{◌≡◌, refl, ap, ap₂, ◌∙◌, subst}
 use mathlib.Core.Logic.{◌⊎◌, inl, inr}
 use mathlib.Core.Bool.{Bool, true, false, cond}
@@ -37,6 +38,10 @@ use Rattle.trainer.specs.PartsCode.{Posed}
 use Rattle.listing.proofs.Accepts as accepts
 
 -- ---- the list call
+
+pub unwrapped : (r : Result ℕ Refusal) → result_unwrap_or r 0 ≡ count_of r
+unwrapped (Ok n) = refl
+unwrapped (Err e) = refl
 
 -- the right list stands in front of the outcomes
 pub record Found (b : Buffers) (q : Question) (count : ℕ) (outcomes : List ℕ) : Type 0 where

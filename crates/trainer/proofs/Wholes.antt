@@ -3,21 +3,26 @@ use mathlib.Core.Path.{◌≡◌, refl, sym, ap, ap₂, subst⁻¹, ◌∙◌}
 use mathlib.Core.Bool.{Bool, true, false, cond, ◌&&◌}
 use mathlib.Core.List.{List}
 use Prim.Native.Nat.{ℕ, ◌+◌, ◌*◌, ◌/◌, ◌≤◌}
+use native.Mathlib.Decide.{ℕ_discrete}
 use native.Mathlib.Omega.{arith}
 use lib.Dec.{eqb, leb}
 use lib.ListN.{length, take, drop, replicate, length-append, length-replicate}
 use lib.Seq.{take_at}
-use borrow.Author.Tests.{eq-eqb}
+use borrow.Author.Tests.{eq-eqb, ne_eqb}
+use Rattle.std.specs.Prelude.{Err}
+use Rattle.rules.specs.declared.Refusal.{Refusal}
+use Rattle.rules.specs.Refusal.{number_of}
+use Rattle.rules.proofs.Refusals.{some_number}
 use Rattle.paging.specs.Layout.{frame_words}
 use Rattle.sections.specs.Sections.{Got, got, refused, Puzzle, puzzle_of}
-use Rattle.puzzle.specs.Buffers.{ReadResult, Accepted, Refused, Buffers, buffers, After, after, laid, words_of, answer, read_call}
+use Rattle.puzzle.specs.Buffers.{ReadResult, Accepted, Refused as Unread, Buffers, buffers, After, after, laid, words_of, answer, read_call}
 use Rattle.puzzle.specs.PartsCode.{Lengths}
 use Rattle.puzzle.proofs.Accepted.{accepted}
 use Rattle.render.specs.declared.Printer.{Printer}
 use Rattle.render.specs.WrittenCode.{Out, out_of, place_of, written, Puts}
 use Rattle.render.proofs.Writes.{written_front}
 use Rattle.trainer.specs.declared.Written.{Written}
-use Rattle.trainer.specs.Call.{posed, puzzle_in, Lines, Prints, Call, told_of, output_size}
+use Rattle.trainer.specs.Call.{posed, puzzle_in, Refused, Lines, Prints, Call, told, text_told, told_of, output_size}
 use Rattle.trainer.specs.PartsCode.{Printable, PrintedTo}
 use Rattle.trainer.proofs.Puzzles.{Sizes, sizes, ready}
 use Rattle.puzzle.proofs.Theorems as reads
@@ -31,7 +36,7 @@ judged-by : (b : Buffers) → Lengths b → (text : List ℕ) → read_call text
 unfolding read_call
 judged-by b l text = go (leb (length text) 65536)
   where
-    go : (t : Bool) → cond (t && eqb (length b.map) 16 && eqb (length b.cr3s) 4 && eqb (length b.words) 8192 && eqb (length b.events) 1024 && eqb (length b.questions) 48) (answer (puzzle_of text) b) (after (Refused 1 0) b)
+    go : (t : Bool) → cond (t && eqb (length b.map) 16 && eqb (length b.cr3s) 4 && eqb (length b.words) 8192 && eqb (length b.events) 1024 && eqb (length b.questions) 48) (answer (puzzle_of text) b) (after (Unread 1 0) b)
         ≡ answer (cond t (puzzle_of text) (refused 1 0)) b
     go true =
         simp (eq-eqb (length b.map) 16 l.map, eq-eqb (length b.cr3s) 4 l.cr3s, eq-eqb (length b.words) 8192 l.words, eq-eqb (length b.events) 1024 l.events, eq-eqb (length b.questions) 48 l.questions)
@@ -46,9 +51,9 @@ judged =
 pub says : (text : List ℕ) (new : Buffers) {r s : ReadResult} → r ≡ s → after r new ≡ read_call text zeros → after s new ≡ answer (puzzle_in text) zeros
 says text new e h = ap (λ (x : ReadResult). after x new) (sym e) ∙ h ∙ judged text
 
-pub told : (m : Got Puzzle) (old new : Buffers) {n l : ℕ} → after (Refused n l) new ≡ answer m old → m ≡ refused n l
-told (refused k j) old new {n} {l} e = let h : Refused n l ≡ Refused k j = ap (λ (x : After). x.result) e in cc
-told (got z at) old new {n} {l} e = let h = ap (λ (x : After). x.result) e in let y : ◌≡◌ {A = ℕ} 0 1 = cc in absurd (omega arith)
+pub read_refused : (m : Got Puzzle) (old new : Buffers) {n l : ℕ} → after (Unread n l) new ≡ answer m old → m ≡ refused n l
+read_refused (refused k j) old new {n} {l} e = let h : Unread n l ≡ Unread k j = ap (λ (x : After). x.result) e in cc
+read_refused (got z at) old new {n} {l} e = let h = ap (λ (x : After). x.result) e in let y : ◌≡◌ {A = ℕ} 0 1 = cc in absurd (omega arith)
 
 -- ---- an accepted text
 
@@ -119,20 +124,20 @@ fronts_are t m c w e q = (λ i. buffers (m i) (c i) (w i) (e i) (q i)) ∙ t.fro
 -- ---- what was written
 
 pub printed : {Of : Lines} {text bytes : List ℕ} (m : Got Puzzle) → puzzle_in text ≡ m → Prints Of m bytes
-    → {before after : Printer} → Puts bytes before after → before.at ≡ 0 → after.at ≤ before.at + output_size → {count : ℕ} → count ≡ after.at
-    → PrintedTo Of text (told_of m count) before after
-printed {Of} {bytes} m is p put none few {count} counted =
-    let n : count ≡ length bytes = omega (arith, counted, put.at, none) in
+    → {before after : Printer} → Puts bytes before after → before.at ≡ 0 → after.at ≤ before.at + output_size
+    → {w : Written} → text_told w ≡ told_of m after.at → PrintedTo Of text w before after
+printed {Of} {bytes} m is p {after} put none few counted =
+    let n : after.at ≡ length bytes = omega (arith, put.at, none) in
     record {
       bytes = bytes;
       prints = subst⁻¹ (λ (x : Got Puzzle). Prints Of x bytes) is p;
-      counted = ap (told_of m) n ∙ ap (λ (x : Got Puzzle). told_of x (length bytes)) (sym is);
+      counted = counted ∙ ap (told_of m) n ∙ ap (λ (x : Got Puzzle). told_of x (length bytes)) (sym is);
       puts = put;
       few = few;
     }
 
-pub call_by : {Of : Lines} {text before after : List ℕ} {r : Written} {new last : Printer} → PrintedTo Of text r new last
-    → new.at ≡ 0 → new.out.now ≡ before → after ≡ last.out.now → length before ≡ output_size → Call Of text before r after
+pub call_by : {Of : Lines} {text before after : List ℕ} {w : Written} {new last : Printer} → PrintedTo Of text w new last
+    → new.at ≡ 0 → new.out.now ≡ before → after ≡ last.out.now → length before ≡ output_size → Call Of text before (text_told w) after
 call_by {before} {new} {last} p none same behind long =
     let h : length p.bytes ≤ length before = omega (arith, p.puts.at, p.few, none, long) in
     let start : place_of new ≡ out_of 0 before = ap₂ out_of none same in
@@ -141,3 +146,17 @@ call_by {before} {new} {last} p none same behind long =
       refused = λ d. absurd (d long);
       printed = λ d. record { bytes = p.bytes; prints = p.prints; fits = h; counted = p.counted; holds = behind ∙ ap (λ (o : Out). o.buffer) w };
     }
+
+-- a buffer of another length is refused
+pub call_refused : {Of : Lines} {text before : List ℕ} (e : Refusal) → number_of e ≡ cond (eqb (length before) output_size) 0 1 → Call Of text before (told (Err e)) before
+call_refused {before} e n = record {
+  refused = λ d. (ap Refused (n ∙ ap (λ (b : Bool). cond b 0 1) (ne_eqb (length before) output_size d)), refl);
+  printed = λ h. absurd (omega (arith, some_number e, n ∙ ap (λ (b : Bool). cond b 0 1) (eq-eqb (length before) output_size h)));
+}
+
+pub fits_output : (n : ℕ) → ◌≡◌ {A = ℕ} 0 (cond (eqb n output_size) 0 1) → n ≡ output_size
+fits_output n e = go (ℕ_discrete n output_size)
+  where
+    go : Dec (n ≡ output_size) → n ≡ output_size
+    go (yes h) = h
+    go (no h) = absurd (omega (arith, e ∙ ap (λ (b : Bool). cond b 0 1) (ne_eqb n output_size h)))

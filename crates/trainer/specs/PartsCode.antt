@@ -1,10 +1,10 @@
 -- What the functions below `answers` and `run` ask for and leave.
-use Rattle.std.specs.Prelude.{Result, ◌≡◌, List, [], ℕ, ◌+◌, ◌*◌, ◌/◌, ◌^◌, ◌≤◌, ◌<◌, length, take, get_or}
+use Rattle.std.specs.Prelude.{Result, ◌≡◌, List, [], ℕ, ◌+◌, ◌/◌, ◌^◌, ◌≤◌, ◌<◌, length, get_or}
 use Rattle.rules.specs.declared.Event.{Event}
 use Rattle.rules.specs.declared.Refusal.{Refusal}
 use Rattle.rules.specs.declared.Question.{Question}
 use Rattle.rules.specs.declared.Outcome.{Outcome}
-use Rattle.listing.specs.Call.{asked, lent, list_refusal, pairs}
+use Rattle.listing.specs.Call.{asked, lent, list_refusal}
 use Rattle.puzzle.specs.Buffers.{Buffers, buffers}
 use Rattle.rules.specs.Numbers.{events_of, question_of}
 use Rattle.render.specs.declared.Printer.{Printer}

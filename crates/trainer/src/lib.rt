@@ -140,8 +140,9 @@ impl Lists<'_> {
             &mut outcomes,
             q,
         )
-        .unwrap_or(0) as usize;
-        printer.put_question(self.map, q, &outcomes[..2 * count]);
+        .unwrap_or(0);
+        let pairs = front(&outcomes, 2, count);
+        printer.put_question(self.map, q, pairs);
     }
 
     fn put_answers(&self, printer: &mut Printer<'_>)
@@ -206,7 +207,7 @@ impl Session<'_> {
     fn set_up(&mut self, cr3s: &[u64])
         ensures { Started cr3s.now self.old self.new }
     {
-        shadow::setup(
+        let _ = shadow::setup(
             self.map,
             cr3s,
             self.pool,
