@@ -9,7 +9,8 @@ ghost use Rattle.puzzle.specs.PartsCode.{EndIs, lists, LongEnough, SectionsAre, 
 
 use cursor::{Cursor, NoNumber};
 use rules::Refusal;
-use sections::{Section, TextFault};
+use sections::Section;
+pub use sections::TextFault;
 
 // The count of each section.
 #[derive(Clone, Copy)]

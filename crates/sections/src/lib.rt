@@ -2,6 +2,7 @@
 #![tactic(auto)]
 
 ghost use Rattle.std.specs.Prelude.{◌≡◌, [], ◌*◌, ◌≤◌, length};
+ghost use Rattle.rules.specs.Refusal.{number_of};
 ghost use Rattle.sections.specs.Sizes.{most_frames};
 ghost use Rattle.sections.specs.Sections.{map_range, word_range, event_so_far, event_range, question_range, width, count_range, in_range, numbers, section};
 ghost use Rattle.sections.specs.PartsCode.{capacity, fault_of, out_of_range, PartIs};
@@ -51,6 +52,15 @@ pub struct Part {
 pub struct TextFault {
     pub refusal: Refusal,
     pub line: u64,
+}
+
+impl TextFault {
+    // The number of the refusal, as it is printed.
+    pub fn number(self) -> u64
+        ensures { result ≡ number_of self.refusal }
+    {
+        self.refusal.into()
+    }
 }
 
 impl From<NoNumber> for TextFault {
