@@ -165,6 +165,11 @@ module _ (M : Machine) (map : List ℕ) (s : State) (e : Event) where
               enough (yes h) = simp (lt-ltb (M.tables.levels - 1) M.share h, le-ltb (M.share - 1) (M.tables.levels - 1) (omega arith))
               enough (no h) = simp (le-ltb (M.tables.levels - 1) M.share (omega arith), lt-ltb (M.share - 1) (M.tables.levels - 1) (omega arith))
 
+          pub call_accepted : 0 < M.share → M.tables.levels ≤ M.share → 0 ≡ event_refusal (as_setup M s) e → 0 ≡ call_refusal M map s e
+          call_accepted some spare fits =
+              let enough = lt-ltb (M.tables.levels - 1) M.share (omega arith) in
+              ap (λ (b : Bool). cond b 0 12) (sym enough) ∙ call_last some fits
+
   -- a refusal changes nothing
   pub call_refused : {n : ℕ} → n ≡ call_refusal M map s e → 0 < n → refuses n s ≡ after M map s e
   unfolding after
