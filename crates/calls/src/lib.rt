@@ -3,7 +3,7 @@
 #![tactic(auto)]
 
 use buffers::{at, print, print_numbers};
-use rules::Event;
+use rules::{Event, Refusal};
 use shadow::Answer;
 use std::io;
 use tables::Sizes;
@@ -63,7 +63,7 @@ impl State {
         }
     }
 
-    fn answer(&mut self, call: Call, numbers: &[u64]) -> Answer {
+    fn answer(&mut self, call: Call, numbers: &[u64]) -> Result<Answer, Refusal> {
         let [
             frames,
             processors,

@@ -1,10 +1,9 @@
 // The list call: what it is asked, the buffers that it is lent, and its answer as text.
-use buffers::{draw, print, print_number, print_pairs};
-use listing::Listed;
-use rules::Question;
+use buffers::{draw, print, print_numbers, print_pairs};
+use rules::{Question, Refusal};
 use std::io;
 
-// Page 8 of processor 0, for a read.
+// Whether processor 0 may read at address 8.
 pub const READ: Question = Question {
     proc: 0,
     addr: 8,
@@ -42,7 +41,7 @@ impl Lent<'_> {
 }
 
 impl Call<'_> {
-    pub fn list(&self, lent: &mut Lent) -> Listed {
+    pub fn list(&self, lent: &mut Lent) -> Result<u64, Refusal> {
         listing::list(
             self.map,
             lent.words,
@@ -57,11 +56,10 @@ impl Call<'_> {
     // Calls, and prints the number of the refusal, the count and the pairs.
     pub fn show(&self, rt: &impl Print, lent: &mut Lent) -> io::Result<()> {
         let (refusal, count) = match self.list(lent) {
-            Listed::Count(count) => (0, count),
-            Listed::Refused(number) => (number, 0),
+            Ok(count) => (0, count),
+            Err(refusal) => (u64::from(refusal), 0),
         };
-        print_number(rt, refusal)?;
-        print_number(rt, count)?;
+        print_numbers(rt, &[refusal, count])?;
         print_pairs(rt, count, lent.outcomes)?;
         print(rt, b"\n")
     }

@@ -4,7 +4,6 @@ ghost use Rattle.std.specs.Prelude.{◌≤◌};
 
 use crate::call::{Call, Lent, READ, print_kept};
 use buffers::{print, print_number, print_numbers};
-use listing::Listed;
 use rules::Question;
 use std::io;
 
@@ -105,8 +104,8 @@ fn show_call<const WORK: usize>(
     print_numbers(rt, numbers)?;
     print(rt, b":")?;
     let refusal = match call.list(&mut lent) {
-        Listed::Count(_) => 0,
-        Listed::Refused(number) => number,
+        Ok(_) => 0,
+        Err(refusal) => u64::from(refusal),
     };
     print_number(rt, refusal)?;
     print_kept(rt, lent.is_as_filled())

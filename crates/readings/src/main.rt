@@ -3,23 +3,9 @@
 // Every buffer starts as sevens, so that the sums of a refusal show that nothing was written.
 #![tactic(auto)]
 
-ghost use Rattle.std.specs.Prelude.{◌≤◌, length};
-
 use buffers::{print, print_number, read_full, sum};
 use puzzle::ReadResult;
 use std::io;
-
-fn find(s: &[u8], from: usize, b: u8) -> usize
-    requires { from ≤ length s.now }
-    ensures { (from ≤ result) × (result ≤ length s.now) }
-{
-    for i in from..s.len() {
-        if s[i] == b {
-            return i;
-        }
-    }
-    s.len()
-}
 
 fn print_result(rt: &impl Print, r: ReadResult) -> io::Result<()> {
     match r {
@@ -70,16 +56,10 @@ fn show(rt: &impl Print, label: &[u8], text: &[u8]) -> io::Result<()> {
 }
 
 fn show_all(rt: &impl Print, s: &[u8]) -> io::Result<()> {
-    let mut at = 0;
-    while at < s.len() {
-        let eq = find(s, at, b'=');
-        if eq >= s.len() {
-            return Ok(());
+    for case in s.split(|b| *b == b'|') {
+        if let Some(eq) = case.iter().position(|b| *b == b'=') {
+            show(rt, &case[..eq], &case[eq + 1..])?;
         }
-        let text = eq + 1;
-        let end = find(s, text, b'|');
-        show(rt, &s[at..eq], &s[text..end])?;
-        at = end + 1;
     }
     Ok(())
 }

@@ -2,7 +2,6 @@
 ghost use Rattle.std.specs.Prelude.{◌≤◌};
 
 use calls::{Call, Section};
-use cursor::Digits;
 
 #[derive(Clone, Copy, Debug, PartialEq, Eq)]
 pub enum Command {
@@ -37,10 +36,7 @@ impl From<u8> for Command {
 }
 
 fn number(word: &[u8]) -> u64 {
-    match cursor::read_digits(word, 0) {
-        Digits::Value(value, _) => value,
-        Digits::Big => 0,
-    }
+    cursor::read_digits(word, 0).map_or(0, |digits| digits.value)
 }
 
 // The numbers of a line. There is room for 24, and further ones are let go.

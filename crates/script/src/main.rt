@@ -25,6 +25,7 @@ fn speak(rt: &impl Print, command: Command, numbers: &[u64], state: &mut State) 
     match command {
         Command::Call(call) => state.show(rt, call, numbers),
         Command::Show(section) => show(rt, state.section(section), numbers),
+        // A heading.
         _ => Ok(()),
     }
 }

@@ -1,14 +1,18 @@
 -- What an entry names, by the tests on the way; and how large the numbers of tables, frames and roots can be.
-use mathlib.Core.Path.{◌≡◌, refl}
+use mathlib.Core.Path.{◌≡◌, refl, sym}
 use mathlib.Core.Bool.{Bool, true, false, cond, ◌&&◌}
 use Prim.Native.Nat.{ℕ, ◌-◌, ◌^◌, ◌<◌, ◌≤◌}
 use native.Mathlib.Nat.{mul-le-mul, mul-lt-mul_of_pos_right}
 use native.Mathlib.Omega.{arith}
 use lib.Dec.{ltb, leb}
-use borrow.Author.Tests.{lt-ltb, le-ltb, le-leb, lt-leb, ltb-true}
-use Rattle.paging.specs.Layout.{tables64, frame_of, is_present}
+use borrow.Author.Tests.{lt-ltb, le-ltb, le-leb, lt-leb, ltb-true, ltb-false}
+use Rattle.std.specs.Prelude.{Some, None, unwrap_or}
+use Rattle.std.proofs.lemmas.Option.{cond_some, none-some}
+use Rattle.paging.specs.Layout.{tables64, index, frame_of, is_present}
+use Rattle.paging.proofs.Indices.{index_small}
+use Rattle.paging.proofs.Rights.{rights_small, meet_small}
 use Rattle.tables.specs.declared.Sizes.{Sizes}
-use Rattle.tables.specs.State.{Machine, machine64, table_count, root_of, named}
+use Rattle.tables.specs.State.{Machine, machine64, table_count, root_of, named, named_some}
 use Rattle.tables.specs.SizesCode.{Sized}
 
 pub frame_small : (e : ℕ) → frame_of tables64 e < 2 ^ 40
@@ -50,3 +54,30 @@ module _ (M : Machine) (e : ℕ) where
       go true true q = let h = ltb-true (frame_of M.tables e - M.base) (table_count M) q in omega arith
       go true false q = omega arith
       go false c q = omega arith
+
+  -- the same of the option
+  pub named_number : unwrap_or (named_some M e) (table_count M) ≡ named M e
+  named_number = go (ltb (named M e) (table_count M)) refl
+    where
+      go : (b : Bool) → ltb (named M e) (table_count M) ≡ b → unwrap_or (cond b (Some (named M e)) None) (table_count M) ≡ named M e
+      go true q = refl
+      go false q = let h = ltb-false (named M e) (table_count M) q in omega (arith, named_small)
+
+  pub named_is : (u : ℕ) → Some u ≡ named_some M e → (u ≡ named M e) × (u < table_count M)
+  named_is u q =
+      let (b, v) = cond_some (ltb (named M e) (table_count M)) (named M e) u (sym q) in
+      (sym v, let h = ltb-true (named M e) (table_count M) b in omega (arith, v))
+
+  pub named_none : None ≡ named_some M e → named M e ≡ table_count M
+  named_none q = let h : ltb (named M e) (table_count M) ≡ false = go (ltb (named M e) (table_count M)) q in
+      let k = ltb-false (named M e) (table_count M) h in omega (arith, named_small)
+    where
+      go : (b : Bool) → None ≡ cond b (Some (named M e)) None → b ≡ false
+      go true q = absurd (none-some (named M e) q)
+      go false q = refl
+
+pub index64_small : (page l : ℕ) → index tables64 page l < 512
+index64_small page l = index_small tables64 page l
+
+-- how large the numbers can be
+pub ruleset bounds = (few, root_small, frame_small, named_small, rights_small, meet_small, index64_small)

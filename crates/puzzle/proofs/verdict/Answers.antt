@@ -3,4 +3,4 @@ use Rattle.puzzle.proofs.Fills.{verdict_is}
 use Rattle.puzzle.proofs.verdict.Goals as goal
 
 pub returns : goal.returns
-returns c = verdict_is c.read_sections.result c.read_sections.ensures
+returns c = verdict_is _ _ _ c.read_sections.result c.read_sections.ensures
