@@ -25,7 +25,7 @@ use Rattle.trees.proofs.Settles.{Leads}
 abbrev whole_of : Guest → Walk → Walked
 whole_of last w = record { last = last; walk = w }
 
-whole_walk : {last last' : Guest} {w w' : Walk} → whole last w ≡ whole last' w' → w ≡ w'
+pub whole_walk : {last last' : Guest} {w w' : Walk} → whole last w ≡ whole last' w' → w ≡ w'
 whole_walk {last} {last'} {w} {w'} e = let q : whole_of last w ≡ whole_of last' w' = cc in ap (λ (x : Walked). x.walk) q
 
 whole_last : {last last' : Guest} {w w' : Walk} → whole last w ≡ whole last' w' → last ≡ last'

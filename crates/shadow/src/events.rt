@@ -88,8 +88,7 @@ fn place_below(map: &[u64], z: Sizes, level: u64, e: u64) -> Option<u64>
     if level == 1 {
         return paging::origin_of(map, Host(paging::frame_of(e))).map(|g| g.0);
     }
-    let u = tables::named_by(z, e);
-    (u < tables::table_count(z)).then_some(u)
+    tables::named_by(z, e)
 }
 
 pub fn extend(map: &[u64], pool: &[u64], slots: &mut [u64], z: Sizes, p: u64, k: u64) -> Answer
