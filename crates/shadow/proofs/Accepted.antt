@@ -125,25 +125,13 @@ shadows_within M map s t e =
 -- ---- the number of a call, test by test
 
 module _ (M : Machine) (map : List ℕ) (s : State) (e : Event) where
-  pub call_sizes : (ranges_fit M && lengths_fit M map s.shadow s.slots) ≡ false → 1 ≡ call_refusal M map s e
-  unfolding call_refusal refusal
-  call_sizes q = simp q
-
   module _ (sizes : (ranges_fit M && lengths_fit M map s.shadow s.slots) ≡ true) where
     pub call_short : eqb (length s.words) (frame_words * M.frames) ≡ false → 1 ≡ call_refusal M map s e
     unfolding call_refusal refusal
     call_short q = simp (sizes, q)
 
     module _ (long : eqb (length s.words) (frame_words * M.frames) ≡ true) where
-      pub call_map : frames_fit M map ≡ false → 2 ≡ call_refusal M map s e
-      unfolding call_refusal refusal
-      call_map q = simp (sizes, long, q)
-
       module _ (frames : frames_fit M map ≡ true) where
-        pub call_unlawful : lawful M map s ≡ false → 3 ≡ call_refusal M map s e
-        unfolding call_refusal refusal
-        call_unlawful q = simp (sizes, long, frames, q)
-
         module _ (right : lawful M map s ≡ true) where
           passed : refusal (event_tests (as_setup M s) e ++ (test 12 (too_few M) ∷ [])) ≡ call_refusal M map s e
           unfolding call_refusal refusal
@@ -169,12 +157,6 @@ module _ (M : Machine) (map : List ℕ) (s : State) (e : Event) where
           call_accepted some spare fits =
               let enough = lt-ltb (M.tables.levels - 1) M.share (omega arith) in
               ap (λ (b : Bool). cond b 0 12) (sym enough) ∙ call_last some fits
-
-  -- a refusal changes nothing
-  pub call_refused : {n : ℕ} → n ≡ call_refusal M map s e → 0 < n → refuses n s ≡ after M map s e
-  unfolding after
-  call_refused en some =
-      ap (λ (k : ℕ). refuses k s) en ∙ sym (simp (ne_eqb (call_refusal M map s e) 0 (λ q. omega (arith, en, q, some))))
 
 -- ---- an accepted call
 
@@ -305,13 +287,11 @@ module _ (z : Sizes) (map : List ℕ) (s : State) (e : Event) (ok : call_refusal
       let r = accepted_ranged (machine64 z) map s e ok in
       let root = root_small accepted_sized e.proc own in
       record {
-        sized = accepted_sized;
+        owner = record { sized = accepted_sized; own = own; triples = omega (arith, x.triples) };
         spare = r.share.0;
-        own = own;
         guests = omega (arith, x.guests, r.frames);
         hosts = hosts_below (2 ^ 40) (omega arith) map (accepted_map (machine64 z) map s e ok);
         pairs = x.pairs;
-        triples = omega (arith, x.triples);
         cr3 = omega (arith, accepted_frame (machine64 z) map s e ok (root_of (machine64 z) e.proc) root, r.frames);
       }
 

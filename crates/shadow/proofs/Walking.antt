@@ -55,29 +55,3 @@ module _ (Y : Layout) (G page limit : ℕ) (most : G ≤ limit) where
   guest_range words cr3 h e =
       let q = ap (λ (d : GuestWalk). d.ended) e in
       rw q (walk_range Y.levels words cr3 (start Y cr3) h h (omega arith))
-
-module _ (M : Machine) (map : List ℕ) (p page : ℕ) (q : Request) (s : State) where
-  abbrev ends : GuestWalk → Reply
-  ends d = after_walk M map p page q (state_of d.words s.shadow s.slots) d.ended
-
-  module _ {root : ℕ} {cr3 : Guest} {words : List ℕ} {r : Ended} (er : root ≡ root_of M p) (ec : cr3 ≡ shadows s.shadow.records root)
-      (ed : guest_walk words r ≡ walk_guest M.tables M.frames page s.words cr3) where
-    spelt : {r' : Ended} → r ≡ r' → ends (guest_walk words r') ≡ after_miss M map p page q s
-    unfolding after_miss
-    spelt same =
-        ap (λ (x : Ended). ends (guest_walk words x)) (sym same)
-        ∙ ap ends (ed ∙ ap (walk_guest M.tables M.frames page s.words) (ec ∙ ap (shadows s.shadow.records) er))
-
-    pub miss_fault : {stop : Stop} → r ≡ Err stop → gives (Faulted (base_of stop + q.adds)) (faulted M p page (state_of words s.shadow s.slots)) ≡ after_miss M map p page q s
-    miss_fault same = spelt same
-
-    pub miss_lacks : {last : Guest} {w : Walk} → r ≡ whole last w → enough q w.rights ≡ false
-        → gives (Faulted (1 + q.adds)) (faulted M p page (state_of words s.shadow s.slots)) ≡ after_miss M map p page q s
-    miss_lacks same lacks = simp lacks at (spelt same)
-
-    pub miss_fills : {last : Guest} {w : Walk} → r ≡ whole last w → enough q w.rights ≡ true → {words' : List ℕ} {s' : State}
-        → words' ≡ dirtied M.tables q page last words → s' ≡ fill M map p page (state_of words' s.shadow s.slots)
-        → gives Again s' ≡ after_miss M map p page q s
-    miss_fills same serves ew es =
-        ap (gives Again) (es ∙ ap (λ (x : List ℕ). fill M map p page (state_of x s.shadow s.slots)) ew)
-        ∙ (simp serves at (spelt same))

@@ -6,6 +6,7 @@ ghost use Rattle.shadow.specs.ReadyCode.{Ready};
 
 use tables::{Sizes, Spot};
 
+#[tactic(auto, unfolding(crate::specs::Fill::fill))]
 pub fn fill(
     map: &[u64],
     words: &[u64],

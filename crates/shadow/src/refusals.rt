@@ -69,6 +69,7 @@ fn frames_fit(map: &[u64], z: Sizes) -> bool
 }
 
 // Whether an event call is accepted; else the lowest refusal that is due.
+#[tactic(auto, unfolding(crate::specs::Refusals::call_refusal, rules::specs::Refusal::refusal))]
 pub fn test_call(
     map: &[u64],
     words: &[u64],
@@ -91,6 +92,7 @@ pub fn test_call(
 }
 
 // Whether a setup is accepted; else the lowest refusal that is due.
+#[tactic(auto, unfolding(crate::specs::Refusals::setup_refusal, rules::specs::Refusal::refusal))]
 pub fn test_setup(
     map: &[u64],
     cr3s: &[u64],
