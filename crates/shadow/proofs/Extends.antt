@@ -1,24 +1,19 @@
 -- Places are small: a guest frame that the map has is below the map's length.
 use Rattle.std.specs.Prelude.{Option, Some, None}
-use mathlib.Core.Path.{◌≡◌, refl, sym, ap, ◌∙◌}
-use mathlib.Core.Bool.{Bool, true, false, cond, ◌&&◌}
+use mathlib.Core.Path.{◌≡◌, refl, ap}
+use mathlib.Core.Bool.{Bool, true, false, cond}
 use mathlib.Core.List.{List, [], ◌∷◌}
-use Prim.Native.Nat.{ℕ, suc, ◌+◌, ◌-◌, ◌/◌, ◌%◌, ◌<◌, ◌≤◌}
+use Prim.Native.Nat.{ℕ, suc, ◌+◌, ◌<◌}
 use native.Mathlib.Omega.{arith}
 use lib.Dec.{eqb, ltb}
-use lib.ListN.{length, get_or}
-use borrow.Author.Tests.{lt-ltb, le-ltb}
+use lib.ListN.{length}
 use Rattle.paging.specs.declared.Guest.{Guest}
 use Rattle.paging.specs.declared.Host.{Host}
 use Rattle.paging.specs.Frame.{guest, host, origin_from, origin_of}
-use Rattle.paging.specs.Layout.{index, frame_of, rights_of, is_present}
-use Rattle.paging.specs.Walk.{meet}
-use Rattle.tables.specs.State.{Machine, State, state_of, entry_of, named, table_count}
-use Rattle.slots.specs.Slots.{slot_at, mark_of, page_in, with_slot}
+use Rattle.paging.specs.Layout.{frame_of}
+use Rattle.tables.specs.State.{Machine, named, table_count}
 use Rattle.tables.proofs.Names.{named_small}
-use Rattle.shadow.specs.declared.Answer.TheVariants.{Done, NoStep}
-use Rattle.shadow.specs.Answer.{Reply, gives}
-use Rattle.shadow.specs.Moves.{by_place, place_of, place_below, after_extend}
+use Rattle.shadow.specs.Moves.{place_of, place_below}
 
 pub origin_small : (map : List ℕ) (h : Host) (k : ℕ) (g : Guest) → origin_from k map h ≡ Some g → g.0 < k + length map
 unfolding origin_from

@@ -1,23 +1,18 @@
 -- Where a fill has settled, a table stands.
-use mathlib.Core.Path.{◌≡◌, refl, ap, ap₂, ◌∙◌}
+use mathlib.Core.Path.{◌≡◌, refl}
 use mathlib.Core.Bool.{Bool, true, false, cond}
 use mathlib.Core.List.{List}
-use Prim.Native.Nat.{ℕ, zero, suc, ◌+◌, ◌-◌, ◌^◌, ◌<◌, ◌≤◌}
+use Prim.Native.Nat.{ℕ, zero, suc, ◌+◌, ◌^◌, ◌<◌, ◌≤◌}
 use native.Mathlib.Omega.{arith}
-use lib.Dec.{ltb}
-use borrow.Author.Tests.{lt-ltb, le-ltb}
 use Rattle.paging.specs.declared.Guest.{Guest}
 use Rattle.paging.specs.Frame.{guest}
 use Rattle.paging.specs.Layout.{tables64, index, frame_of}
 use Rattle.tables.specs.declared.Sizes.{Sizes}
-use Rattle.tables.specs.declared.Spot.{Spot}
-use Rattle.tables.specs.State.{Machine, Shadow, State, state_of, shadows, machine64, table_count, root_of, entry_of, named}
-use Rattle.tables.specs.Steps.{Settled, settled_at, spot, cut, agrees, settle, build, free_count, empty_share}
+use Rattle.tables.specs.State.{Machine, Shadow, machine64, table_count, entry_of, named}
+use Rattle.tables.specs.Steps.{settled_at, spot, cut, agrees, settle}
 use Rattle.guest.specs.GuestWalk.{guest_entry}
-use Rattle.slots.specs.Slots.{empty_slots, flush}
 use Rattle.tables.proofs.Names.{frame_small}
 use Rattle.tables.proofs.Fills.{agrees-named}
-use Rattle.shadow.specs.Fill.{fill}
 use Rattle.tables.specs.SizesCode.{SpotFits}
 
 pub settled_spot : (z : Sizes) (words : List ℕ) (page n t : ℕ) (g : Guest) (s : Shadow) → n ≤ 3 → t < table_count (machine64 z) → g.0 < 2 ^ 40

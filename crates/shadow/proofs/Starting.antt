@@ -1,21 +1,21 @@
 -- The number of a setup, test by test; and what is known of one that is accepted.
-use mathlib.Core.Path.{◌≡◌, refl, sym, ap, ◌∙◌}
-use mathlib.Core.Bool.{Bool, true, false, cond, not, ◌&&◌}
+use mathlib.Core.Path.{◌≡◌, sym, ap, ◌∙◌}
+use mathlib.Core.Bool.{Bool, true, not, ◌&&◌}
 use mathlib.Core.List.{List, [], ◌∷◌}
-use Prim.Native.Nat.{ℕ, ◌+◌, ◌^◌, ◌≤◌, ◌<◌}
+use Prim.Native.Nat.{ℕ, ◌+◌, ◌^◌, ◌≤◌}
 use native.Mathlib.Omega.{arith}
 use lib.Dec.{eqb}
 use lib.ListN.{length, get_or, replicate}
-use borrow.Author.Tests.{eq-eqb, ne_eqb, eqb-true, not-false}
+use borrow.Author.Tests.{eq-eqb, eqb-true, not-false}
 use Rattle.paging.specs.Frame.{map_fits, cr3s_fit}
 use Rattle.paging.specs.Numbers.{all}
 use Rattle.paging.proofs.Tests.{both}
-use Rattle.rules.specs.Refusal.{test, refusal}
+use Rattle.rules.specs.Refusal.{test}
 use Rattle.rules.proofs.Ranges.{clear}
 use Rattle.tables.specs.declared.Sizes.{Sizes}
 use Rattle.tables.specs.State.{Machine, shadow_of, State, state_of, machine64, table_count}
 use Rattle.shadow.specs.declared.Answer.TheVariants.{Done}
-use Rattle.shadow.specs.Answer.{gives, refuses}
+use Rattle.shadow.specs.Answer.{gives}
 use Rattle.shadow.specs.Refusals.{ranges_fit, lengths_fit, pool_fits, in_pool, frames_fit, setup_refusal}
 use Rattle.shadow.specs.Setup.{rooted, after_setup}
 use Rattle.shadow.proofs.Sizing.{Ranged, ranged, pool_room, Exact, exact}

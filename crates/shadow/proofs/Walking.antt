@@ -1,28 +1,18 @@
 -- How a walk of the guest's tables ends: its last table and its rights are in range, and so is a fault's code. And what
 -- a miss does once the walk has ended.
 use Rattle.std.specs.Prelude.{Ok, Err}
-use mathlib.Core.Path.{◌≡◌, refl, sym, ap, ◌∙◌}
-use mathlib.Core.Bool.{true, false}
+use mathlib.Core.Path.{◌≡◌, refl, ap}
 use mathlib.Core.List.{List}
-use Prim.Native.Nat.{ℕ, zero, suc, ◌+◌, ◌<◌, ◌≤◌}
+use Prim.Native.Nat.{ℕ, zero, suc, ◌<◌, ◌≤◌}
 use native.Mathlib.Omega.{arith}
 use Rattle.paging.specs.declared.Guest.{Guest}
-use Rattle.paging.specs.declared.Request.{Request}
 use Rattle.paging.specs.declared.Walk.{Walk}
-use Rattle.paging.specs.declared.Stop.{Stop}
 use Rattle.paging.specs.declared.Stop.TheVariants.{Absent, Beyond, Complete}
 use Rattle.paging.specs.Layout.{Layout, get, put, index, with_a, rights_of}
-use Rattle.paging.specs.Request.{enough}
 use Rattle.paging.specs.Walk.{Step, base_of, start, step}
 use Rattle.paging.proofs.Rights.{meet_small}
 use Rattle.paging.proofs.Steps.{goes}
-use Rattle.tables.specs.State.{Machine, State, state_of, shadows, root_of}
-use Rattle.shadow.specs.declared.Answer.TheVariants.{Fault as Faulted, Again}
-use Rattle.shadow.specs.Access.{faulted}
-use Rattle.guest.specs.GuestWalk.{Ended, whole, GuestWalk, guest_walk, by_step, walk_from, walk_guest, dirtied}
-use Rattle.shadow.specs.Answer.{Reply, gives}
-use Rattle.shadow.specs.Fill.{fill}
-use Rattle.shadow.specs.Access.{after_walk, after_miss}
+use Rattle.guest.specs.GuestWalk.{Ended, GuestWalk, guest_walk, by_step, walk_from, walk_guest}
 
 abbrev pub InRange : ℕ → Ended → Type 0
 InRange limit (Ok x) = (x.last.0 < limit) × (x.walk.rights < 8)

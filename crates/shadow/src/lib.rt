@@ -64,6 +64,9 @@ pub fn value_of(a: Result<Answer, Refusal>) -> u64
 
 // ---- the event call
 
+// Kept: the buffers as parameters, here and below. Tried as a struct of borrows with methods: of a buffer that a method passes
+// on as & a proof knows the length alone afterwards, so that each method would have to borrow every buffer anew.
+
 #[tactic(auto, unfolding(crate::specs::After::moved))]
 fn take_step(
     map: &[u64],

@@ -1,12 +1,8 @@
 -- A setup that is refused changes nothing; one that is accepted zeroes the buffers and sets the roots.
-use mathlib.Core.Path.{◌≡◌, sym, ap, ◌∙◌}
+use mathlib.Core.Path.{sym, ◌∙◌}
 use mathlib.Core.List.{[]}
-use Rattle.std.proofs.Common.{rules, Result, Err}
-use Rattle.rules.specs.declared.Refusal.{Refusal}
-use Rattle.rules.proofs.Refusals.{some_number}
+use Rattle.std.proofs.Common.{rules}
 use Rattle.tables.specs.State.{shadow_of, state_of, machine64}
-use Rattle.shadow.specs.declared.Answer.{Answer}
-use Rattle.shadow.specs.Answer.{by_number, replies}
 use Rattle.shadow.proofs.Starting.{accepted_sizes, setup_exact, setup_cr3s, setup_sized, setup_done}
 use Rattle.shadow.proofs.setup.Goals as goal
 

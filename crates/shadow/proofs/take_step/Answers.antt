@@ -1,6 +1,5 @@
 -- Each arm is the move that the kind decodes to.
 use mathlib.Core.Path.{sym, ap, ◌∙◌}
-use native.Mathlib.Omega.{arith}
 use Rattle.rules.specs.Numbers.{kind_number}
 use Rattle.tables.specs.State.{shadow_of, state_of, machine64}
 use Rattle.shadow.proofs.Moves.{moved_store}

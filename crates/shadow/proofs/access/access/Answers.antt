@@ -1,11 +1,9 @@
 -- Three ways out: a slot, the shadow path, a miss.
 use mathlib.Core.Path.{◌≡◌, refl, sym, ap, ◌∙◌, subst⁻¹}
-use Prim.Native.Nat.{ℕ, ◌+◌, ◌/◌, ◌<◌, ◌≤◌}
+use Prim.Native.Nat.{ℕ, ◌<◌, ◌≤◌}
 use native.Mathlib.Omega.{arith}
-use lib.ListN.{get_or}
-use Rattle.paging.specs.declared.Host.{Host}
 use Rattle.paging.specs.declared.Request.{Request}
-use Rattle.paging.specs.Frame.{guest, host, host_of, host_address}
+use Rattle.paging.specs.Frame.{host, host_address}
 use Rattle.paging.specs.Layout.{tables64, index}
 use Rattle.paging.proofs.Indices.{index_small}
 use Rattle.tables.specs.State.{shadow_of, state_of, machine64}

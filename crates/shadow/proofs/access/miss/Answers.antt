@@ -1,17 +1,12 @@
 -- The walk ends in a fault, without a right, or in a fill.
-use mathlib.Core.Path.{◌≡◌, sym, ap, ◌∙◌}
-use Prim.Native.Nat.{ℕ, ◌+◌, ◌<◌, ◌≤◌, ◌^◌}
+use mathlib.Core.Path.{◌≡◌, ap, ◌∙◌}
+use Prim.Native.Nat.{◌<◌, ◌^◌}
 use native.Mathlib.Omega.{arith}
-use Rattle.std.specs.Prelude.{Ok, Err}
+use Rattle.std.specs.Prelude.{Ok}
 use Rattle.paging.specs.declared.Guest.{Guest}
-use Rattle.paging.specs.declared.Walk.{Walk}
 use Rattle.paging.specs.Layout.{tables64}
-use Rattle.paging.specs.Walk.{base_of}
 use Rattle.guest.specs.declared.Walked.{Walked}
-use Rattle.tables.specs.State.{shadow_of, state_of, machine64, shadows}
-use Rattle.tables.proofs.Names.{few, root_small}
-use Rattle.shadow.specs.declared.Answer.TheVariants.{Fault as Faulted}
-use Rattle.shadow.specs.Answer.{gives}
+use Rattle.tables.specs.State.{shadows}
 use Rattle.shadow.proofs.Walking.{InRange, guest_range}
 use Rattle.shadow.proofs.access.miss.Goals as goal
 use Rattle.shadow.proofs.access.miss.Goals.{After-shadowed_by-cr3, After-walk_guest}

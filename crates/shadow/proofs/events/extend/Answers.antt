@@ -4,13 +4,12 @@ use Prim.Native.Nat.{ℕ, ◌+◌, ◌-◌, ◌/◌, ◌%◌}
 use native.Mathlib.Omega.{arith}
 use lib.ListN.{get_or}
 use Rattle.paging.specs.Layout.{tables64}
-use Rattle.paging.specs.Walk.{meet}
 use Rattle.paging.proofs.Indices.{index_small}
 use Rattle.paging.proofs.Rights.{rights_small, meet_small}
-use Rattle.tables.specs.State.{shadow_of, state_of, machine64}
+use Rattle.tables.specs.State.{machine64}
 use Rattle.tables.proofs.Names.{few}
 use Rattle.shadow.proofs.Extends.{place_small}
-use Rattle.slots.specs.Slots.{slot_at, mark_of, page_in}
+use Rattle.slots.specs.Slots.{slot_at, mark_of}
 use Rattle.shadow.proofs.events.extend.Goals as goal
 use Rattle.shadow.proofs.events.extend.Goals.{After-slot_at-at}
 

@@ -1,19 +1,18 @@
 -- Each test that is met gives its number; what was passed before gives what the later tests ask.
 use mathlib.Core.Path.{◌≡◌, sym, ap, ◌∙◌}
-use mathlib.Core.Bool.{Bool, true, ◌&&◌}
-use mathlib.Core.List.{List, []}
-use Prim.Native.Nat.{ℕ, ◌*◌}
+use mathlib.Core.Bool.{true, ◌&&◌}
+use mathlib.Core.List.{[]}
+use Prim.Native.Nat.{◌*◌}
 use native.Mathlib.Omega.{arith}
 use lib.Dec.{eqb}
 use lib.ListN.{length}
 use Rattle.std.proofs.Common.{rules, Result, Err}
 use Rattle.rules.specs.declared.Refusal.{Refusal}
 use Rattle.rules.specs.Refusal.{refusal_of}
-use Rattle.tables.specs.declared.Sizes.{Sizes}
-use Rattle.tables.specs.State.{shadow_of, State, state_of, machine64}
+use Rattle.tables.specs.State.{shadow_of, state_of, machine64}
 use Rattle.shadow.specs.Refusals.{ranges_fit, lengths_fit, frames_fit}
 use Rattle.lawful.specs.Rules.{lawful}
-use Rattle.shadow.proofs.Sizing.{Ranged, ranged, exact}
+use Rattle.shadow.proofs.Sizing.{ranged, exact}
 use Rattle.paging.proofs.Tests.{both}
 use Rattle.rules.proofs.Refusals.{some_number}
 use Rattle.shadow.proofs.Accepted.{passes, fails, frames_sized, call_short, call_event, call_last}
