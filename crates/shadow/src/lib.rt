@@ -64,9 +64,7 @@ pub fn value_of(a: Result<Answer, Refusal>) -> u64
 
 // ---- the event call
 
-// Kept: the buffers as parameters, here and below. Tried as a struct of borrows with methods: of a buffer that a method passes
-// on as & a proof knows the length alone afterwards, so that each method would have to borrow every buffer anew.
-
+// Kept: the buffers as parameters (tried: a struct of borrows with methods; of a buffer that a method passes on as &, a proof then knows the length alone).
 #[tactic(auto, unfolding(crate::specs::After::moved))]
 fn take_step(
     map: &[u64],

@@ -50,7 +50,7 @@ fn in_pool(z: Sizes, f: u64) -> bool
     requires { Sized z }
     ensures { result ≡ in_pool (machine64 z) f }
 {
-    z.base <= f && f < z.base + tables::table_count(z)
+    (z.base..z.base + tables::table_count(z)).contains(&f)
 }
 
 fn outside_pool(map: &[u64], z: Sizes) -> bool
