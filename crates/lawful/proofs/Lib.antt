@@ -1,5 +1,4 @@
 pub mod Hints
-pub mod Records
+pub mod Alls
 pub mod Tallies
 pub mod Wholes
-pub mod Slots
