@@ -1,4 +1,5 @@
 pub mod Hints
 pub mod Alls
+pub mod Strays
 pub mod Tallies
 pub mod Wholes

@@ -67,7 +67,7 @@ impl<'a> Known<'a> {
     fn is_branch(&self, e: u64) -> bool
         ensures { result ≡ is_branch (machine64 self.now.z) e }
     {
-        is_made_with(0, e) && tables::named_by(self.z, e) < tables::table_count(self.z)
+        is_made_with(0, e) && tables::named_by(self.z, e).is_some()
     }
 
     // Whether an entry of a table of this level is laid out rightly.
@@ -84,16 +84,18 @@ impl<'a> Known<'a> {
     }
 
     // Whether entry e of t, if it is present and above level 1, names a table of the same share, one level lower.
-    #[tactic(auto, using(tables::proofs::Names::few, tables::proofs::Names::named_small), unfolding(crate::specs::Rules::names_lower))]
+    #[tactic(auto, using(tables::proofs::Names::few, tables::proofs::Names::named_small, tables::proofs::Names::named_none, crate::proofs::Strays::stray), unfolding(crate::specs::Rules::names_lower))]
     fn names_lower(&self, t: u64, e: u64) -> bool
-        requires { t ≤ 64 }
+        requires { t < table_count (machine64 self.now.z) }
         ensures { result ≡ names_lower (machine64 self.now.z) self.now.records.now t e }
     {
         let level = tables::level_of(self.records, t);
         if level <= 1 || e == 0 {
             return true;
         }
-        let u = tables::named_by(self.z, e);
+        let Some(u) = tables::named_by(self.z, e) else {
+            return false;
+        };
         tables::owner_of(self.records, self.z, u) == tables::owner_of(self.records, self.z, t)
             && tables::level_of(self.records, u) == level - 1
     }
@@ -101,15 +103,14 @@ impl<'a> Known<'a> {
     // An absent entry is right: most are absent.
     #[tactic(auto, unfolding(crate::specs::Rules::entry_right, crate::specs::Rules::is_laid_out, crate::specs::Rules::names_lower))]
     fn entry_right(&self, t: u64, e: u64) -> bool
-        requires { t ≤ 64 }
+        requires { t < table_count (machine64 self.now.z) }
         ensures { result ≡ entry_right (machine64 self.now.z) self.now.map.now self.now.records.now t e }
     {
-        e == 0
-            || self.is_laid_out(tables::level_of(self.records, t), e) && self.names_lower(t, e)
+        e == 0 || self.is_laid_out(tables::level_of(self.records, t), e) && self.names_lower(t, e)
     }
 
     fn entries_right(&self, t: u64) -> bool
-        requires { t ≤ 64 }
+        requires { t < table_count (machine64 self.now.z) }
         ensures { result ≡ all frame_words (λ i. entry_right (machine64 self.now.z) self.now.map.now self.now.records.now t (entry_of (machine64 self.now.z) self.now.pool.now t i)) }
     {
         (0..paging::FRAME_WORDS).all(|i| self.entry_right(t, paging::entry_at(self.pool, t, i)))
@@ -150,10 +151,8 @@ impl<'a> Known<'a> {
         requires tallied { Tallied self.now.z self.now.pool.now counts.old t }
         ensures { Tallied self.now.z self.now.pool.now counts.new (t + 1) }
     {
-        let n = tables::table_count(self.z);
         for i in 0..paging::FRAME_WORDS {
-            let u = tables::named_by(self.z, paging::entry_at(self.pool, t, i));
-            if u < n {
+            if let Some(u) = tables::named_by(self.z, paging::entry_at(self.pool, t, i)) {
                 counts[u as usize] += 1;
             }
         }
@@ -220,8 +219,10 @@ impl<'a> Known<'a> {
         if level == 1 {
             return self.is_leaf(e);
         }
-        let u = tables::named_by(self.z, e);
-        u < tables::table_count(self.z) && self.table_whole(u, level - 1)
+        let Some(u) = tables::named_by(self.z, e) else {
+            return false;
+        };
+        self.table_whole(u, level - 1)
     }
 
     fn roots_whole(&self) -> bool
