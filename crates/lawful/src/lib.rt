@@ -100,13 +100,12 @@ impl<'a> Known<'a> {
             && tables::level_of(self.records, u) == level - 1
     }
 
-    // An absent entry is right: most are absent.
-    #[tactic(auto, unfolding(crate::specs::Rules::entry_right, crate::specs::Rules::is_laid_out, crate::specs::Rules::names_lower))]
+    #[tactic(auto, unfolding(crate::specs::Rules::entry_right))]
     fn entry_right(&self, t: u64, e: u64) -> bool
         requires { t < table_count (machine64 self.now.z) }
         ensures { result ≡ entry_right (machine64 self.now.z) self.now.map.now self.now.records.now t e }
     {
-        e == 0 || self.is_laid_out(tables::level_of(self.records, t), e) && self.names_lower(t, e)
+        self.is_laid_out(tables::level_of(self.records, t), e) && self.names_lower(t, e)
     }
 
     fn entries_right(&self, t: u64) -> bool
@@ -198,8 +197,7 @@ impl<'a> Known<'a> {
             return true;
         }
         for i in 0..paging::FRAME_WORDS {
-            let e = paging::entry_at(self.pool, t, i);
-            if e != 0 && !self.entry_whole(e, level) {
+            if !self.entry_whole(paging::entry_at(self.pool, t, i), level) {
                 return false;
             }
         }
