@@ -11,6 +11,7 @@ ghost use Rattle.slots.specs.Slots.{slot_count, slots_size};
 ghost use Rattle.tables.specs.SizesCode.{Sized};
 
 use paging::Host;
+use slots::Slot;
 use tables::Sizes;
 
 // What the rules are asked of: a state, with a hint at each frame's note. A call passes all of it as one pointer.
@@ -233,12 +234,12 @@ impl<'a> Known<'a> {
 
     // Whether a walk of a level stands on the table that its page reaches from the root, with that path's rights.
     #[tactic(auto, unfolding(crate::specs::Rules::is_on_path))]
-    fn is_on_path(&self, p: u64, page: u64, level: u64, third: u64) -> bool
+    fn is_on_path(&self, p: u64, level: u64, s: Slot) -> bool
         requires { (p < self.now.z.processors) × (level ≤ 4) }
-        ensures { result ≡ is_on_path (machine64 self.now.z) self.now.pool.now p page level (third / 8) (third % 8) }
+        ensures { result ≡ is_on_path (machine64 self.now.z) self.now.pool.now p s.page level s.place s.rights }
     {
-        let w = tables::path_to(self.pool, self.z, p, page, level);
-        w.table < tables::table_count(self.z) && third / 8 == w.table && third % 8 == w.rights
+        let w = tables::path_to(self.pool, self.z, p, s.page, level);
+        w.table < tables::table_count(self.z) && s.place == w.table && s.rights == w.rights
     }
 
     #[tactic(auto, unfolding(crate::specs::Rules::slot_right))]
@@ -246,15 +247,12 @@ impl<'a> Known<'a> {
         requires { (p < self.now.z.processors) × (k < slot_count) }
         ensures { result ≡ slot_right (machine64 self.now.z) self.now.pool.now self.now.slots.now p k }
     {
-        let at = slots::slot_at(p, k);
-        let mark = self.slots[at];
-        let page = self.slots[at + 1];
-        let third = self.slots[at + 2];
-        page < 0x10_0000_0000
-            && match mark {
-                0 => page == 0 && third == 0,
-                1 => third / 8 < self.z.frames,
-                2..=5 => self.is_on_path(p, page, mark - 1, third),
+        let s = slots::slot_of(self.slots, p, k);
+        s.page < 0x10_0000_0000
+            && match s.mark {
+                0 => s.page == 0 && s.place == 0 && s.rights == 0,
+                1 => s.place < self.z.frames,
+                2..=5 => self.is_on_path(p, s.mark - 1, s),
                 _ => false,
             }
     }
