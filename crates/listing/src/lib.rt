@@ -36,20 +36,23 @@ fn apply(words: &mut [u64], work: &mut [u8], at: AskedPage, p: u64, cr3: u64, e:
     let Ok(kind) = Kind::try_from(e.kind) else {
         return cr3;
     };
-    if kind == Kind::Store {
-        words[e.a as usize] = e.b;
-        held::reread_word(words, work, at, e.a);
-        return cr3;
-    }
-    if e.proc != p {
-        return cr3;
-    }
     match kind {
+        Kind::Store => {
+            words[e.a as usize] = e.b;
+            held::reread_word(words, work, at, e.a);
+            cr3
+        }
         Kind::Invlpg => {
+            if e.proc != p {
+                return cr3;
+            }
             held::restart(words, work, at, forgotten(at, e.a), Guest(cr3));
             cr3
         }
         Kind::Cr3Write => {
+            if e.proc != p {
+                return cr3;
+            }
             held::restart(words, work, at, 0, Guest(e.a));
             e.a
         }
