@@ -134,6 +134,8 @@ pub fn path_to(pool: &[u64], z: Sizes, p: u64, page: u64, level: u64) -> Path
 
 // ---- freeing
 
+// Kept: pool and records stay two slices. In one struct of two `&mut` every contract had to add that both references, both lengths and the sizes stay.
+
 // Frees table t of the given level, and every table below it.
 #[cycle(free_table_cut_entry)]
 fn free_table(pool: &mut [u64], records: &mut [u64], z: Sizes, t: u64, level: u64)
