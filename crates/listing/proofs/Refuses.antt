@@ -6,7 +6,8 @@ use native.Mathlib.Numerals.{add-one}
 use native.Mathlib.Decide.{ℕ_discrete}
 use native.Mathlib.Omega.{arith}
 use lib.ListN.{length}
-use borrow.Author.Tests.{eq-eqb, ne_eqb}
+use lib.Dec.{eqb}
+use borrow.Author.Tests.{eq-eqb, ne_eqb, eqb-false}
 use Rattle.paging.specs.Frame.{map_fits, cr3s_fit}
 use Rattle.rules.specs.declared.Refusal.{Refusal}
 use Rattle.rules.specs.Refusal.{refusal, number_of}
@@ -62,9 +63,9 @@ pub refused : (r : Refusal) (fits : Bool) (m : ℕ) → number_of r ≡ cond fit
 refused r true m e = absurd (omega (arith, some_number r))
 refused r false m e = (refl, e)
 
-pub passed : (fits : Bool) (m : ℕ) → 0 < m → ◌≡◌ {A = ℕ} 0 (cond fits 0 m) → fits ≡ true
+pub passed : (fits : Bool) (m : ℕ) → eqb m 0 ≡ false → ◌≡◌ {A = ℕ} 0 (cond fits 0 m) → fits ≡ true
 passed true m h e = refl
-passed false m h e = absurd (omega arith)
+passed false m h e = absurd (eqb-false m 0 h (sym e))
 
 -- ---- the list call's own order
 

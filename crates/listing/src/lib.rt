@@ -36,20 +36,23 @@ fn apply(words: &mut [u64], work: &mut [u8], at: AskedPage, p: u64, cr3: u64, e:
     let Ok(kind) = Kind::try_from(e.kind) else {
         return cr3;
     };
-    if kind == Kind::Store {
-        words[e.a as usize] = e.b;
-        held::reread_word(words, work, at, e.a);
-        return cr3;
-    }
-    if e.proc != p {
-        return cr3;
-    }
     match kind {
+        Kind::Store => {
+            words[e.a as usize] = e.b;
+            held::reread_word(words, work, at, e.a);
+            cr3
+        }
         Kind::Invlpg => {
+            if e.proc != p {
+                return cr3;
+            }
             held::restart(words, work, at, forgotten(at, e.a), Guest(cr3));
             cr3
         }
         Kind::Cr3Write => {
+            if e.proc != p {
+                return cr3;
+            }
             held::restart(words, work, at, 0, Guest(e.a));
             e.a
         }
@@ -215,26 +218,6 @@ fn collect(words: &[u64], work: &[u8], buffer: &mut [u64], at: AskedPage, q: Req
 
 // ---- refusals
 
-fn sizes_fit(
-    map: &[u64],
-    words: &[u64],
-    cr3s: &[u64],
-    events: &[u64],
-    work: &[u8],
-    outcomes: &[u64],
-) -> bool
-    ensures { result ≡ sizes_fit (length map.now) (length cr3s.now) (length events.now) (length words.now) (length work.now) (length outcomes.now) }
-{
-    let frames = map.len();
-    paging::is_between(1, 256, frames as u64)
-        && paging::is_between(1, 4, cr3s.len() as u64)
-        && events.len() % 4 == 0
-        && events.len() / 4 <= 4096
-        && words.len() == paging::FRAME_WORDS * frames
-        && work.len() >= 40 * frames
-        && outcomes.len() >= 2 * (frames + 3)
-}
-
 fn test_events(frames: u64, processors: u64, events: &[u64]) -> Result<(), Refusal>
     requires { frames ≤ 256 }
     ensures { (words cr3s : List ℕ) → refusal_of result ≡ first_refusal (length events.now / 4) (λ k. event_refusal (setup64 frames processors words cr3s) (event_of events.now k)) }
@@ -246,34 +229,49 @@ fn test_events(frames: u64, processors: u64, events: &[u64]) -> Result<(), Refus
     Ok(())
 }
 
-// Whether the call is accepted; else why it is refused.
-fn test_list(
-    map: &[u64],
-    words: &[u64],
-    cr3s: &[u64],
-    events: &[u64],
-    work: &[u8],
-    outcomes: &[u64],
-    q: Question,
-) -> Result<(), Refusal>
-    ensures { refusal_of result ≡ list_refusal (asked map.now cr3s.now events.now q) (lent words.now work.now outcomes.now) }
-{
-    rules::unless(
-        sizes_fit(map, words, cr3s, events, work, outcomes),
-        Refusal::WrongSizes,
-    )?;
-    rules::unless(paging::map_fits(map), Refusal::WrongMap)?;
-    let frames = map.len() as u64;
-    let processors = cr3s.len() as u64;
-    rules::unless(paging::cr3s_fit(frames, cr3s), Refusal::NoFrame)?;
-    test_events(frames, processors, events)?;
-    let access = Event {
-        proc: q.proc,
-        kind: 4,
-        a: q.addr,
-        b: q.request,
-    };
-    rules::test_event(frames, processors, access)
+// What the call was lent, as it is tested.
+#[derive(Clone, Copy)]
+struct Buffers<'a> {
+    map: &'a [u64],
+    words: &'a [u64],
+    cr3s: &'a [u64],
+    events: &'a [u64],
+    work: &'a [u8],
+    outcomes: &'a [u64],
+}
+
+impl Buffers<'_> {
+    fn fit(&self) -> bool
+        ensures { result ≡ sizes_fit (length self.now.map.now) (length self.now.cr3s.now) (length self.now.events.now) (length self.now.words.now) (length self.now.work.now) (length self.now.outcomes.now) }
+    {
+        let frames = self.map.len();
+        paging::is_between(1, 256, frames as u64)
+            && paging::is_between(1, 4, self.cr3s.len() as u64)
+            && self.events.len() % 4 == 0
+            && self.events.len() / 4 <= 4096
+            && self.words.len() == paging::FRAME_WORDS * frames
+            && self.work.len() >= 40 * frames
+            && self.outcomes.len() >= 2 * (frames + 3)
+    }
+
+    // Whether the question is answered; else why it is refused.
+    fn test(&self, q: Question) -> Result<(), Refusal>
+        ensures { refusal_of result ≡ list_refusal (asked self.now.map.now self.now.cr3s.now self.now.events.now q) (lent self.now.words.now self.now.work.now self.now.outcomes.now) }
+    {
+        let frames = self.map.len() as u64;
+        let processors = self.cr3s.len() as u64;
+        rules::unless(self.fit(), Refusal::WrongSizes)?;
+        rules::unless(paging::map_fits(self.map), Refusal::WrongMap)?;
+        rules::unless(paging::cr3s_fit(frames, self.cr3s), Refusal::NoFrame)?;
+        test_events(frames, processors, self.events)?;
+        let access = Event {
+            proc: q.proc,
+            kind: 4,
+            a: q.addr,
+            b: q.request,
+        };
+        rules::test_event(frames, processors, access)
+    }
 }
 
 // The work of an accepted call; the result is the count.
@@ -310,7 +308,15 @@ pub fn list(
 ) -> Result<u64, Refusal>
     ensures { ListCall (asked map.now cr3s.now events.now q) (lent words.old work.old outcomes.old) result (lent words.new work.new outcomes.new) }
 {
-    test_list(map, words, cr3s, events, work, outcomes, q)?;
+    let lent = Buffers {
+        map,
+        words,
+        cr3s,
+        events,
+        work,
+        outcomes,
+    };
+    lent.test(q)?;
     let frames = map.len() as u64;
     let start = cr3s[q.proc as usize];
     Ok(answer(words, work, outcomes, events, frames, q, start))
