@@ -9,10 +9,6 @@ use lib.Dec.{eqb, leb}
 use lib.ListN.{length, take, drop, replicate, length-append, length-replicate}
 use lib.Seq.{take_at}
 use borrow.Author.Tests.{eq-eqb, ne_eqb}
-use Rattle.std.specs.Prelude.{Err}
-use Rattle.rules.specs.declared.Refusal.{Refusal}
-use Rattle.rules.specs.Refusal.{number_of}
-use Rattle.rules.proofs.Refusals.{some_number}
 use Rattle.paging.specs.Layout.{frame_words}
 use Rattle.sections.specs.Sections.{Got, got, refused, Puzzle, puzzle_of}
 use Rattle.puzzle.specs.Buffers.{ReadResult, Accepted, Refused as Unread, Buffers, buffers, After, after, laid, words_of, answer, read_call}
@@ -22,7 +18,7 @@ use Rattle.render.specs.declared.Printer.{Printer}
 use Rattle.render.specs.WrittenCode.{Out, out_of, place_of, written, Puts}
 use Rattle.render.proofs.Writes.{written_front}
 use Rattle.trainer.specs.declared.Written.{Written}
-use Rattle.trainer.specs.Call.{posed, puzzle_in, Refused, Lines, Prints, Call, told, text_told, told_of, output_size}
+use Rattle.trainer.specs.Call.{posed, puzzle_in, Lines, Prints, Call, text_told, told_of, output_size}
 use Rattle.trainer.specs.PartsCode.{Printable, PrintedTo}
 use Rattle.trainer.proofs.Puzzles.{Sizes, sizes, ready}
 use Rattle.puzzle.proofs.Theorems as reads
@@ -146,13 +142,6 @@ call_by {before} {new} {last} p none same behind long =
       refused = λ d. absurd (d long);
       printed = λ d. record { bytes = p.bytes; prints = p.prints; fits = h; counted = p.counted; holds = behind ∙ ap (λ (o : Out). o.buffer) w };
     }
-
--- a buffer of another length is refused
-pub call_refused : {Of : Lines} {text before : List ℕ} (e : Refusal) → number_of e ≡ cond (eqb (length before) output_size) 0 1 → Call Of text before (told (Err e)) before
-call_refused {before} e n = record {
-  refused = λ d. (ap Refused (n ∙ ap (λ (b : Bool). cond b 0 1) (ne_eqb (length before) output_size d)), refl);
-  printed = λ h. absurd (omega (arith, some_number e, n ∙ ap (λ (b : Bool). cond b 0 1) (eq-eqb (length before) output_size h)));
-}
 
 pub fits_output : (n : ℕ) → ◌≡◌ {A = ℕ} 0 (cond (eqb n output_size) 0 1) → n ≡ output_size
 fits_output n e = go (ℕ_discrete n output_size)

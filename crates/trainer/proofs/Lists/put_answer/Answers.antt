@@ -1,15 +1,14 @@
 -- The list call on a copy of the puzzle's words leaves the right list, and its outcomes are written as the lines of the question.
-use mathlib.Core.Path.{refl, ap, ◌∙◌, subst⁻¹}
-use mathlib.Core.List.{List}
-use Prim.Native.Nat.{ℕ, ◌*◌}
+use mathlib.Core.Path.{refl, ap, ◌∙◌}
+use Prim.Native.Nat.{◌*◌}
 use native.Mathlib.Omega.{arith}
 use lib.ListN.{length}
 use lib.Seq.{length-take-le}
 use Rattle.listing.specs.Call.{lent}
-use Rattle.render.specs.LinesCode.{question_lines, AllMapped}
+use Rattle.render.specs.LinesCode.{question_lines}
 use Rattle.render.proofs.Writes.{puts_as}
 use Rattle.trainer.specs.PartsCode.{lists_of}
-use Rattle.trainer.proofs.Asks.{Found, found, unwrapped, pairs_mapped, question-pairs}
+use Rattle.trainer.proofs.Asks.{Found, found, unwrapped, question-pairs}
 use Rattle.trainer.proofs.Lists.put_answer.Goals as goal
 use Rattle.trainer.proofs.Lists.put_answer.Goals.{After-unwrap_or-count}
 
@@ -20,15 +19,6 @@ found_of c =
 
 pub front-pairs-requires : goal.front-pairs-requires
 front-pairs-requires c = omega (arith, (found_of (goal.at.front-pairs-requires c).After-unwrap_or-count).within, c.list.auto.outcomes)
-
-pub put_question-requires : goal.put_question-requires
-put_question-requires c =
-    let b = lists_of c.args.self.now in
-    let f = found_of (goal.at.put_question-requires c).After-unwrap_or-count in
-    let pairs = c.front-pairs.ensures ∙ f.stands in (
-      omega (arith, c.requires.0, ap length c.front-pairs.ensures, f.within, c.list.auto.outcomes, length-take-le (2 * c.unwrap_or-count.result) c.list.new.outcomes (omega (arith, f.within, c.list.auto.outcomes))),
-      subst⁻¹ (λ (l : List ℕ). AllMapped b.map l) pairs (pairs_mapped b c.args.q c.requires.2 f.list f.right),
-    )
 
 pub returns : goal.returns
 returns c =
