@@ -39,7 +39,7 @@ impl<'a> Printer<'a> {
         self.at += 1;
     }
 
-    // All digits but the last are those of a tenth.
+    // All digits but the last are those of a tenth. Kept: `write!` may fail, and then promises nothing of what it wrote.
     fn put_digits(&mut self, n: u64)
         requires { HasRoom self.old (length (digits_of n)) }
         ensures { Puts (digits_of n) self.old self.new }

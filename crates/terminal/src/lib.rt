@@ -13,7 +13,7 @@ use trainer::{OUTPUT_SIZE, Program};
 // One byte more than a text may have.
 const ASKED: usize = sections::TEXT_SIZE + 1;
 
-// To the end of the input or of the buffer: how many bytes were read.
+// To the end of the input or of the buffer: how many bytes were read. Kept: std's own such call fills a `Vec`, on the heap.
 fn read_text<R: Read>(reader: &mut R, text: &mut [u8]) -> io::Result<usize>
     ensures { IfOk result (λ n. n ≤ length text.new) }
 {

@@ -2,7 +2,6 @@
 #![tactic(auto)]
 
 ghost use Rattle.std.specs.Prelude.{◌≡◌, ◌*◌, ◌≤◌, length, take};
-ghost use Rattle.rules.specs.Numbers.{question_of};
 ghost use Rattle.tables.specs.State.{machine64};
 ghost use Rattle.render.specs.WrittenCode.{HasRoom};
 ghost use Rattle.sections.specs.Sizes.{words_size, events_size};
@@ -57,6 +56,7 @@ pub enum Program {
 }
 
 impl Program {
+    // Kept: the buffers are variables, since `puzzle::read` takes each as C lends it.
     fn print(self, text: &[u8], printer: &mut Printer<'_>) -> Written
         requires { HasRoom printer.old output_size × (printer.old.at ≡ 0) }
         ensures { PrintedTo (LinesOf self) text.now result printer.old printer.new }
@@ -235,6 +235,7 @@ impl Session<'_> {
         requires { HasRoom printer.old output_size × (length events.now ≤ events_size) }
         ensures { EventsPut (machine64 self.old.sizes) self.old.map.now (state_in self.old) events.now printer.old printer.new }
     {
+        // Kept: k is told in the event's line, and `rules::event_at` reads event k.
         for k in 0..events.len() / 4 {
             let answer = self.event(rules::event_at(events, k));
             let index = (k + 1) as u64;
