@@ -27,6 +27,7 @@ use Rattle.keeps.proofs.Alikes.{same_refl}
 use Rattle.keeps.proofs.RightStates.{Mapped}
 use Rattle.keeps.proofs.Moves.{page_small}
 use Rattle.keeps.proofs.Filled.{Fills}
+use Rattle.keeps.proofs.WalkReads.{whole_walk}
 use Rattle.keeps.proofs.Accesses.{walked, walked_over, written, walk_same, written_same, written_leads, written-right, filling, Way, slot, shadow, fault, lacks, again, ways}
 use Rattle.keeps.proofs.Again.{end_covers, end_frame, end_inside}
 use Rattle.promise.specs.Demand.{Fresh}
@@ -75,7 +76,7 @@ module _ (F : Fresh) (es : List Event) (k : ℕ) (s : State) (h : Holds F es k s
 
     ended_whole : {x : Ended} → Ends M.tables h.laid.sound (seen F es p v) M.frames v k rules law reads x → (last : Guest) (w : Walk) → x ≡ ended_at last w
         → Kept (seen F es p v) k w × (w.level ≡ 0)
-    ended_whole (whole {w = w'} held done) last w q = let e : w' ≡ w = cc in (rw e at held, rw e at done)
+    ended_whole (whole {w = w'} held done) last w q = let e : w' ≡ w = whole_walk q in (rw e at held, rw e at done)
     ended_whole (absent held gone) last w q = let n : ◌≡◌ {A = ℕ} 0 1 = cc in absurd (omega arith)
     ended_whole (beyond held gone) last w q = let n : ◌≡◌ {A = ℕ} 0 1 = cc in absurd (omega arith)
 

@@ -1,7 +1,6 @@
 -- What the calls say of the whole: the answer of a refused and of an accepted text.
-use mathlib.Core.Path.{◌≡◌, refl, sym, ap, ap₂, ◌∙◌, subst, subst⁻¹}
-use mathlib.Core.Bool.{Bool, true, cond, false≢true}
-use Rattle.std.proofs.lemmas.Bool.Decides.{nat_tests}
+use mathlib.Core.Path.{◌≡◌, sym, ap, ap₂, ◌∙◌, subst, subst⁻¹}
+use mathlib.Core.Bool.{true}
 use mathlib.Core.List.{List}
 use Prim.Native.Nat.{ℕ, ◌*◌, ◌%◌, ◌≤◌, ◌<◌}
 use native.Mathlib.Omega.{arith}
@@ -13,31 +12,16 @@ use Rattle.sections.specs.declared.Section.TheVariants.{Words}
 use Rattle.std.specs.Prelude.{Ok}
 use Rattle.puzzle.specs.declared.Counts.{Counts}
 use Rattle.sections.specs.Sections.{Got, got, refused, Puzzle, puzzle_of, word_range, RangedSection}
-use Rattle.puzzle.specs.Buffers.{Buffers, buffers, ReadResult, Accepted, Refused, result_of, after, with_pairs, words_of, laid, verdict_of, answer, sized, read_call}
-use Rattle.puzzle.specs.PartsCode.{WordsBelow, fronts, Whole, Lengths, accepts}
+use Rattle.puzzle.specs.Buffers.{Buffers, buffers, ReadResult, Refused, result_of, after, with_pairs, words_of, laid, verdict_of, answer}
+use Rattle.puzzle.specs.PartsCode.{WordsBelow, fronts, Whole}
 use Rattle.paging.proofs.Tests.{both}
 use Rattle.puzzle.proofs.Accepted.{accepted}
 use Rattle.puzzle.proofs.Fills.{kept-laid, stored-laid, counts_are}
-
--- the call, once the sizes are tested
-pub read_is : (text : List ℕ) (b : Buffers) (t : Bool) → t ≡ sized text b → read_call text b ≡ cond t (answer (puzzle_of text) b) (after (Refused 1 0) b)
-unfolding read_call
-read_is text b t e = ap (λ (s : Bool). cond s (answer (puzzle_of text) b) (after (Refused 1 0) b)) (sym e)
-
-pub sized-lengths : (text : List ℕ) (b : Buffers) → true ≡ sized text b → Lengths b
-sized-lengths text b e = record { map = grind (arith, nat_tests); cr3s = grind (arith, nat_tests); words = grind (arith, nat_tests); events = grind (arith, nat_tests); questions = grind (arith, nat_tests) }
 
 -- a refused text
 pub refused_answer : (m : Got Puzzle) (b : Buffers) {number line : ℕ} → Refused number line ≡ verdict_of m → after (Refused number line) b ≡ answer m b
 refused_answer (refused k l) b e = ap (λ (r : ReadResult). after r b) e
 refused_answer (got z at) b e = cc
-
-pub accepts-by : (m : Got Puzzle) {g p w e q : ℕ} → Accepted g p w e q ≡ verdict_of m → accepts m ≡ true
-accepts-by (got z at) e = refl
-accepts-by (refused k l) e = cc
-
-pub not_refused : {m : Got Puzzle} {number line : ℕ} → accepts m ≡ true → m ≡ refused number line → ⊥
-not_refused a e = false≢true (sym (ap accepts e) ∙ a)
 
 -- the words of accepted pairs
 word_below : (G v i : ℕ) (l : List ℕ) → i * 2 ≤ length l → word_range G (take (i * 2) l) v ≡ true → v < 512 * G

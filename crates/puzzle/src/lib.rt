@@ -9,7 +9,8 @@ ghost use Rattle.puzzle.specs.PartsCode.{EndIs, lists, LongEnough, SectionsAre, 
 
 use cursor::{Cursor, NoNumber};
 use rules::Refusal;
-use sections::{Section, TextFault};
+pub use sections::TextFault;
+use sections::{Limits, Section};
 
 // The count of each section.
 #[derive(Clone, Copy)]
@@ -46,17 +47,27 @@ fn read_sections(
     ensures { SectionsAre text.now (lists map.old cr3s.old pairs.old events.old questions.old) (lists map.new cr3s.new pairs.new events.new questions.new) result }
 {
     let start = Cursor { at: 0, line: 1 };
-    let frames = sections::read(text, start, Section::Map, 0, 0, map)?;
-    let g = frames.count;
-    let roots = sections::read(text, frames.after, Section::Cr3s, g, 0, cr3s)?;
-    let p = roots.count;
-    let words = sections::read(text, roots.after, Section::Words, g, p, pairs)?;
-    let steps = sections::read(text, words.after, Section::Events, g, p, events)?;
-    let asked = sections::read(text, steps.after, Section::Questions, g, p, questions)?;
+    let none = Limits {
+        frames: 0,
+        processors: 0,
+    };
+    let frames = sections::read(text, start, Section::Map, none, map)?;
+    let guest = Limits {
+        frames: frames.count,
+        processors: 0,
+    };
+    let roots = sections::read(text, frames.after, Section::Cr3s, guest, cr3s)?;
+    let limits = Limits {
+        frames: frames.count,
+        processors: roots.count,
+    };
+    let words = sections::read(text, roots.after, Section::Words, limits, pairs)?;
+    let steps = sections::read(text, words.after, Section::Events, limits, events)?;
+    let asked = sections::read(text, steps.after, Section::Questions, limits, questions)?;
     test_end(text, asked.after)?;
     Ok(Counts {
-        frames: g,
-        processors: p,
+        frames: limits.frames,
+        processors: limits.processors,
         words: words.count,
         events: steps.count,
         questions: asked.count,
@@ -64,6 +75,7 @@ fn read_sections(
 }
 
 // Each word of the pairs becomes its value.
+#[tactic(auto, using(crate::proofs::Fills::pair_more, crate::proofs::Fills::pair_below, crate::proofs::Fills::pair_end))]
 fn store_pairs(words: &mut [u64], pairs: &[u64])
     requires { WordsBelow (length words.old) pairs.now }
     ensures { words.new ≡ with_pairs pairs.now words.old }
@@ -74,6 +86,7 @@ fn store_pairs(words: &mut [u64], pairs: &[u64])
 }
 
 // What the text says, before any buffer is touched: its sections are read into arrays of this function's own.
+#[tactic(auto, using(crate::proofs::Fills::verdict_is))]
 fn verdict(text: &[u8]) -> Result<Counts, TextFault>
     ensures { result_of result ≡ verdict_of (puzzle_of text.now) }
 {
@@ -131,6 +144,8 @@ fn are_sized(
 }
 
 // The text is judged first; only then is anything written, so that a refusal changes nothing.
+// Kept: five buffers, since the C interface lends them one by one (`flamecurl_read`).
+#[tactic(auto, using(crate::proofs::Calls::refused_answer), unfolding(crate::specs::Buffers::read_call))]
 pub fn read(
     text: &[u8],
     map: &mut [u64],

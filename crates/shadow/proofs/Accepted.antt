@@ -7,7 +7,7 @@ use native.Mathlib.Decide.{dec_lt}
 use native.Mathlib.Omega.{arith}
 use lib.Dec.{eqb, ltb, leb}
 use lib.ListN.{length, get_or}
-use borrow.Author.Tests.{eq-eqb, ne_eqb, lt-ltb, le-ltb, eqb-true, ltb-true, ltb-false, leb-true, leb-false, not-false}
+use borrow.Author.Tests.{eq-eqb, lt-ltb, le-ltb, eqb-true, ltb-true, ltb-false, leb-true, leb-false, not-false}
 use Rattle.paging.specs.Layout.{frame_words}
 use Rattle.paging.specs.Frame.{map_fits}
 use Rattle.paging.specs.Numbers.{all}
@@ -25,8 +25,6 @@ use Rattle.slots.specs.Slots.{mark_of, page_in, place_in, rights_in}
 use Rattle.tables.proofs.Names.{few, root_small}
 use Rattle.lawful.specs.Rules.{lawful, table_right, table_whole, record_right, entry_right, is_root, names_of, slot_right, is_on_path}
 use Rattle.shadow.specs.Refusals.{as_setup, ranges_fit, lengths_fit, pool_fits, in_pool, frames_fit, too_few, call_refusal}
-use Rattle.shadow.specs.After.{after}
-use Rattle.shadow.specs.Answer.{refuses}
 use Rattle.shadow.specs.ReadyCode.{Ready, Standing, Fitting}
 use Rattle.shadow.proofs.Sizing.{Ranged, ranged, sized, pool_room, Exact, exact, hosts_below}
 use Rattle.tables.specs.SizesCode.{Sized}
@@ -125,51 +123,36 @@ shadows_within M map s t e =
 -- ---- the number of a call, test by test
 
 module _ (M : Machine) (map : List ℕ) (s : State) (e : Event) where
-  pub call_sizes : (ranges_fit M && lengths_fit M map s.shadow s.slots) ≡ false → 1 ≡ call_refusal M map s e
-  unfolding call_refusal refusal
-  call_sizes q = simp q
-
   module _ (sizes : (ranges_fit M && lengths_fit M map s.shadow s.slots) ≡ true) where
     pub call_short : eqb (length s.words) (frame_words * M.frames) ≡ false → 1 ≡ call_refusal M map s e
     unfolding call_refusal refusal
     call_short q = simp (sizes, q)
 
-    module _ (long : eqb (length s.words) (frame_words * M.frames) ≡ true) where
-      pub call_map : frames_fit M map ≡ false → 2 ≡ call_refusal M map s e
+    module _ (long : eqb (length s.words) (frame_words * M.frames) ≡ true) (frames : frames_fit M map ≡ true) (right : lawful M map s ≡ true) where
+      passed : refusal (event_tests (as_setup M s) e ++ (test 12 (too_few M) ∷ [])) ≡ call_refusal M map s e
       unfolding call_refusal refusal
-      call_map q = simp (sizes, long, q)
+      passed = sym (simp (sizes, long, frames, right))
 
-      module _ (frames : frames_fit M map ≡ true) where
-        pub call_unlawful : lawful M map s ≡ false → 3 ≡ call_refusal M map s e
-        unfolding call_refusal refusal
-        call_unlawful q = simp (sizes, long, frames, q)
+      pub call_event : {m : ℕ} → m ≡ event_refusal (as_setup M s) e → (m ≡ 0 → ⊥) → m ≡ call_refusal M map s e
+      unfolding event_refusal
+      call_event em some = refusal_more (event_tests (as_setup M s) e) (test 12 (too_few M) ∷ []) em some ∙ passed
 
-        module _ (right : lawful M map s ≡ true) where
-          passed : refusal (event_tests (as_setup M s) e ++ (test 12 (too_few M) ∷ [])) ≡ call_refusal M map s e
-          unfolding call_refusal refusal
-          passed = sym (simp (sizes, long, frames, right))
+      -- the last test decides
+      pub call_last : 0 < M.share → 0 ≡ event_refusal (as_setup M s) e → cond (ltb (M.tables.levels - 1) M.share) 0 12 ≡ call_refusal M map s e
+      unfolding refusal
+      call_last some fits =
+          enough (dec_lt (M.tables.levels - 1) M.share)
+          ∙ sym (refusal_then (event_tests (as_setup M s) e) (test 12 (too_few M) ∷ []) (event_clear (as_setup M s) e (sym fits)))
+          ∙ passed
+        where
+          enough : Dec (M.tables.levels - 1 < M.share) → cond (ltb (M.tables.levels - 1) M.share) 0 12 ≡ refusal (test 12 (too_few M) ∷ [])
+          enough (yes h) = simp (lt-ltb (M.tables.levels - 1) M.share h, le-ltb (M.share - 1) (M.tables.levels - 1) (omega arith))
+          enough (no h) = simp (le-ltb (M.tables.levels - 1) M.share (omega arith), lt-ltb (M.share - 1) (M.tables.levels - 1) (omega arith))
 
-          pub call_event : {m : ℕ} → m ≡ event_refusal (as_setup M s) e → (m ≡ 0 → ⊥) → m ≡ call_refusal M map s e
-          unfolding event_refusal
-          call_event em some = refusal_more (event_tests (as_setup M s) e) (test 12 (too_few M) ∷ []) em some ∙ passed
-
-          -- the last test decides
-          pub call_last : 0 < M.share → 0 ≡ event_refusal (as_setup M s) e → cond (ltb (M.tables.levels - 1) M.share) 0 12 ≡ call_refusal M map s e
-          unfolding refusal
-          call_last some fits =
-              enough (dec_lt (M.tables.levels - 1) M.share)
-              ∙ sym (refusal_then (event_tests (as_setup M s) e) (test 12 (too_few M) ∷ []) (event_clear (as_setup M s) e (sym fits)))
-              ∙ passed
-            where
-              enough : Dec (M.tables.levels - 1 < M.share) → cond (ltb (M.tables.levels - 1) M.share) 0 12 ≡ refusal (test 12 (too_few M) ∷ [])
-              enough (yes h) = simp (lt-ltb (M.tables.levels - 1) M.share h, le-ltb (M.share - 1) (M.tables.levels - 1) (omega arith))
-              enough (no h) = simp (le-ltb (M.tables.levels - 1) M.share (omega arith), lt-ltb (M.share - 1) (M.tables.levels - 1) (omega arith))
-
-  -- a refusal changes nothing
-  pub call_refused : {n : ℕ} → n ≡ call_refusal M map s e → 0 < n → refuses n s ≡ after M map s e
-  unfolding after
-  call_refused en some =
-      ap (λ (k : ℕ). refuses k s) en ∙ sym (simp (ne_eqb (call_refusal M map s e) 0 (λ q. omega (arith, en, q, some))))
+      pub call_accepted : 0 < M.share → M.tables.levels ≤ M.share → 0 ≡ event_refusal (as_setup M s) e → 0 ≡ call_refusal M map s e
+      call_accepted some spare fits =
+          let enough = lt-ltb (M.tables.levels - 1) M.share (omega arith) in
+          ap (λ (b : Bool). cond b 0 12) (sym enough) ∙ call_last some fits
 
 -- ---- an accepted call
 
@@ -300,13 +283,11 @@ module _ (z : Sizes) (map : List ℕ) (s : State) (e : Event) (ok : call_refusal
       let r = accepted_ranged (machine64 z) map s e ok in
       let root = root_small accepted_sized e.proc own in
       record {
-        sized = accepted_sized;
+        owner = record { sized = accepted_sized; own = own; triples = omega (arith, x.triples) };
         spare = r.share.0;
-        own = own;
         guests = omega (arith, x.guests, r.frames);
         hosts = hosts_below (2 ^ 40) (omega arith) map (accepted_map (machine64 z) map s e ok);
         pairs = x.pairs;
-        triples = omega (arith, x.triples);
         cr3 = omega (arith, accepted_frame (machine64 z) map s e ok (root_of (machine64 z) e.proc) root, r.frames);
       }
 

@@ -5,7 +5,7 @@ use mathlib.Core.List.{List}
 use Prim.Native.Nat.{ℕ, zero, suc, ◌-◌, ◌<◌, ◌≤◌}
 use native.Mathlib.Omega.{arith}
 use lib.Dec.{T, ltb, leb, ltb→lt, leb→le}
-use borrow.Author.Tests.{lt-ltb, le-ltb}
+use borrow.Author.Tests.{le-ltb}
 use Rattle.paging.specs.declared.Request.{Request}
 use Rattle.paging.specs.Frame.{guest, host, host_of, host_address}
 use Rattle.paging.specs.Layout.{tables64, index, page_of, frame_of, rights_of, is_present}
@@ -75,11 +75,6 @@ module _ (M : Machine) (map : List ℕ) (p a r : ℕ) (s : State) where
         let k' = ek ∙ ap₂ (serving_slot s.slots p) ep eq in
         let e' = ee ∙ ap₂ (next_entry M s.shadow.pool) ep w' in
         (λ j. by_all (ep j) (eq j) (k' j) (w' j) (e' j))
-
-    pub access_slot : k < 8 → {v : ℕ} → v ≡ host_address (host_of map (guest (place_in s.slots p k))) a → gives (Address v) s ≡ after_access M map p a r s
-    access_slot h ev =
-        ap (λ (v : ℕ). gives (Address v) s) ev
-        ∙ (simp (lt-ltb k 8 h) at (spelt (path_to M s.shadow.pool p page 1) (next_entry M s.shadow.pool page (path_to M s.shadow.pool p page 1)) refl refl))
 
     module _ (none : 8 ≤ k) (w : Path) (i e : ℕ) (ew : w ≡ path_to M s.shadow.pool p page 1) (ei : i ≡ index M.tables page w.level) (ee : e ≡ entry_of M s.shadow.pool w.table i) where
       entry_is : e ≡ next_entry M s.shadow.pool page w

@@ -6,7 +6,7 @@ use Rattle.paging.specs.Layout.{index, page_of, frame_of, rights_of, is_present}
 use Rattle.paging.specs.Walk.{meet}
 use Rattle.rules.specs.declared.Event.{Event}
 use Rattle.rules.specs.History.{is_store, is_invlpg, is_cr3_write, is_access, is_begin, is_extend}
-use Rattle.tables.specs.State.{Machine, on_pool, on_records, State, state_of, with_record, table_count, root_of, entry_of, with_entry, named, path_to}
+use Rattle.tables.specs.State.{Machine, on_pool, on_records, State, state_of, with_record, table_count, root_of, entry_of, with_entry, named_some, path_to}
 use Rattle.slots.specs.Slots.{mark_of, page_in, place_in, rights_in, with_slot, emptied, flush, empty_slots}
 use Rattle.tables.specs.Steps.{empty_share}
 use Rattle.shadow.specs.declared.Answer.TheVariants.{Done, NoStep}
@@ -82,7 +82,7 @@ module _ (M : Machine) where
   unfoldable pub place_below : List ℕ → ℕ → ℕ → Option ℕ
   place_below map l e =
       cond (eqb l 1) (place_of (origin_of map (host (frame_of M.tables e))))
-      (cond (ltb (named M e) (table_count M)) (Some (named M e)) None)
+      (named_some M e)
 
   -- "Extend: a partial slot whose shadow entry is present moves one level; else kind 4."
   unfoldable pub after_extend : List ℕ → ℕ → ℕ → State → Reply

@@ -13,6 +13,7 @@ use paging::{Guest, Host, Request};
 use tables::{Path, Sizes};
 
 // Neither slot nor shadow answers: the guest's tables are walked.
+#[tactic(auto, unfolding(crate::specs::Access::after_miss))]
 fn miss(
     map: &[u64],
     words: &mut [u64],
@@ -50,6 +51,7 @@ fn path_serves(w: Path, e: u64, q: Request) -> bool
         && paging::has_enough(q, paging::shared_rights(w.rights, paging::rights_of(e)))
 }
 
+#[tactic(auto, unfolding(crate::specs::Access::after_access))]
 pub fn access(
     map: &[u64],
     words: &mut [u64],

@@ -64,6 +64,8 @@ pub fn value_of(a: Result<Answer, Refusal>) -> u64
 
 // ---- the event call
 
+// Kept: the buffers as parameters (tried: a struct of borrows with methods; of a buffer that a method passes on as &, a proof then knows the length alone).
+#[tactic(auto, unfolding(crate::specs::After::moved))]
 fn take_step(
     map: &[u64],
     words: &mut [u64],
@@ -92,6 +94,7 @@ fn take_step(
 }
 
 // One event. A refusal changes nothing.
+#[tactic(auto, using(crate::proofs::Accepted::ready, crate::proofs::Accepted::fitting), unfolding(crate::specs::After::after))]
 pub fn event(
     map: &[u64],
     words: &mut [u64],
@@ -111,6 +114,7 @@ pub fn event(
 // ---- setup
 
 // Each root gets its level and its CR3.
+#[tactic(auto, using(paging::proofs::Numbers::each_none, paging::proofs::Numbers::each_more), unfolding(crate::specs::Setup::rooted))]
 fn set_roots(cr3s: &[u64], records: &mut [u64], z: Sizes)
     requires room { Room z records.old }
     requires cr3s_len { length cr3s.now ≡ z.processors }
@@ -122,6 +126,7 @@ fn set_roots(cr3s: &[u64], records: &mut [u64], z: Sizes)
 }
 
 // Pool, records and slots zero, roots at level 4 shadowing the given CR3s. A refusal changes nothing.
+#[tactic(auto, unfolding(crate::specs::Setup::after_setup))]
 pub fn setup(
     map: &[u64],
     cr3s: &[u64],

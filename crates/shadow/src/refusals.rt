@@ -50,7 +50,7 @@ fn in_pool(z: Sizes, f: u64) -> bool
     requires { Sized z }
     ensures { result ≡ in_pool (machine64 z) f }
 {
-    z.base <= f && f < z.base + tables::table_count(z)
+    (z.base..z.base + tables::table_count(z)).contains(&f)
 }
 
 fn outside_pool(map: &[u64], z: Sizes) -> bool
@@ -69,6 +69,7 @@ fn frames_fit(map: &[u64], z: Sizes) -> bool
 }
 
 // Whether an event call is accepted; else the lowest refusal that is due.
+#[tactic(auto, unfolding(crate::specs::Refusals::call_refusal, rules::specs::Refusal::refusal))]
 pub fn test_call(
     map: &[u64],
     words: &[u64],
@@ -91,6 +92,7 @@ pub fn test_call(
 }
 
 // Whether a setup is accepted; else the lowest refusal that is due.
+#[tactic(auto, unfolding(crate::specs::Refusals::setup_refusal, rules::specs::Refusal::refusal))]
 pub fn test_setup(
     map: &[u64],
     cr3s: &[u64],

@@ -8,21 +8,13 @@ use lib.Dec.{ltb}
 use borrow.Author.Tests.{ltb-true}
 use Rattle.paging.specs.declared.Guest.{Guest}
 use Rattle.std.specs.Prelude.{Some, None}
-use Rattle.std.proofs.lemmas.Option.{none-some, same_Some}
 use Rattle.paging.specs.Frame.{guest}
 use Rattle.paging.specs.Layout.{index, frame_of}
 use Rattle.tables.specs.declared.Spot.{Spot}
 use Rattle.tables.specs.State.{Machine, Shadow, on_pool, with_entry, entry_of, named, table_count}
 use Rattle.tables.specs.Steps.{Settled, settled_at, spot, cut, leaf_of, agrees, agreeing, settle, hang_next, build}
+use Rattle.tables.proofs.Names.{some_is, none_is}
 use Rattle.guest.specs.GuestWalk.{guest_entry}
-
-agreed : (b : Bool) (x u : ℕ) → Some u ≡ cond b (Some x) None → (b ≡ true) × (u ≡ x)
-agreed true x u q = (refl, same_Some u x q)
-agreed false x u q = absurd (none-some u (sym q))
-
-differed : (b : Bool) (x : ℕ) → None ≡ cond b (Some x) None → b ≡ false
-differed true x q = absurd (none-some x q)
-differed false x q = refl
 
 first_of_three : (a b c : Bool) → a && b && c ≡ true → a ≡ true
 first_of_three true b c e = refl
@@ -34,7 +26,7 @@ agrees-named M records h e same = ltb-true (named M h) (table_count M) (first_of
 
 pub agreeing-named : (M : Machine) (records : List ℕ) (h e u : ℕ) → Some u ≡ agreeing M records h e → u < table_count M
 agreeing-named M records h e u q =
-    let (same-is, eu) = agreed (agrees M records h e) (named M h) u q in
+    let (same-is, eu) = some_is (agrees M records h e) (named M h) u q in
     let n = agrees-named M records h e same-is in omega arith
 
 module _ (M : Machine) (words : List ℕ) (page : ℕ) where
@@ -76,7 +68,7 @@ module _ (M : Machine) (words : List ℕ) (page : ℕ) where
       pub settle-on : {u f : ℕ} → Some u ≡ agreeing M s.records h e → f ≡ frame_of M.tables e
           → settle M words page (m - 1) u (guest f) s ≡ settle M words page m t g s
       settle-on {u = u} same ef =
-          let (same-is, eu) = agreed (agrees M s.records h e) (named M h) u same in
+          let (same-is, eu) = some_is (agrees M s.records h e) (named M h) u same in
           (λ j. settle M words page (m - 1) ((eu ∙ ap (named M) eh) j) (guest ((ef ∙ ap (frame_of M.tables) ee) j)) s)
           ∙ sym (settle-by pos ∙ ap (λ (b : Bool). cond b
           (settle M words page (m - 1) (named M (shadow_at m t s)) (guest (frame_of M.tables (guest_at m g))) s)
@@ -89,7 +81,7 @@ module _ (M : Machine) (words : List ℕ) (page : ℕ) where
           ap (settled_at (spot m t g)) (es ∙ ap (λ (i : ℕ). cut M m t i s) ei)
           ∙ sym (settle-by pos ∙ ap (λ (b : Bool). cond b
           (settle M words page (m - 1) (named M (shadow_at m t s)) (guest (frame_of M.tables (guest_at m g))) s)
-          (settled_at (spot m t g) (cut M m t (index M.tables page (m + 1)) s))) (tested ∙ differed (agrees M s.records h e) (named M h) differs))
+          (settled_at (spot m t g) (cut M m t (index M.tables page (m + 1)) s))) (tested ∙ none_is (agrees M s.records h e) (named M h) differs))
 
     module _ (map : List ℕ) (p : ℕ) where
       pub build-end : m ≡ 0 → {e x i : ℕ} {s' : Shadow} → e ≡ guest_entry M.tables words page 1 g → x ≡ leaf_of M.tables map e

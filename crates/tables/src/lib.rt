@@ -78,6 +78,7 @@ pub fn home_of(z: Sizes, t: u64) -> u64
 }
 
 // The processor that owns table t: that of its share, whatever its record says.
+#[tactic(auto, unfolding(crate::specs::State::owner_of))]
 pub fn owner_of(records: &[u64], z: Sizes, t: u64) -> u64
     requires { Sized z }
     ensures { result ≡ owner_of (machine64 z) records.now t }
@@ -93,6 +94,7 @@ pub fn root_of(z: Sizes, p: u64) -> u64
 }
 
 // The table that an entry names, if it names one.
+#[tactic(auto, unfolding(crate::specs::State::named))]
 pub fn named_by(z: Sizes, e: u64) -> Option<u64>
     requires { Sized z }
     ensures { result ≡ named_some (machine64 z) e }
@@ -133,6 +135,8 @@ pub fn path_to(pool: &[u64], z: Sizes, p: u64, page: u64, level: u64) -> Path
 }
 
 // ---- freeing
+
+// Kept: pool and records stay two slices. In one struct of two `&mut` every contract had to add that both references, both lengths and the sizes stay.
 
 // Frees table t of the given level, and every table below it.
 #[cycle(free_table_cut_entry)]
@@ -231,6 +235,7 @@ fn next_free(records: &[u64], z: Sizes, p: u64) -> Option<u64>
 // ---- filling
 
 // The level 1 shadow entry for a guest entry: W only if D is set.
+#[tactic(auto, using(crate::proofs::Names::bounds), unfolding(crate::specs::Steps::leaf_of))]
 fn leaf_of(map: &[u64], e: u64) -> u64
     requires { (i : ℕ) → get_or map.now i 0 < 2 ^ 40 }
     ensures { result ≡ leaf_of tables64 map.now e }

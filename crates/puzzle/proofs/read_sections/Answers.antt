@@ -6,7 +6,7 @@ use Rattle.puzzle.proofs.Chain.{after-start, then_cr3s, then_words, then_events,
 use Rattle.puzzle.proofs.read_sections.Goals as goal
 
 pub read-requires : goal.read-requires
-read-requires c = (record { inside = omega arith; lined = unfold feeds in refl }, omega arith, c.requires.map)
+read-requires c = (record { inside = omega arith; lined = unfold feeds in refl }, c.requires.map)
 
 pub returns-in_err-frames : goal.returns-in_err-frames
 returns-in_err-frames c =

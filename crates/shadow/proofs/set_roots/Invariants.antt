@@ -1,6 +1,6 @@
 -- The roots below p are set.
 use mathlib.Core.Path.{◌≡◌}
-use lib.ListN.{length, get_or}
+use lib.ListN.{get_or}
 use Rattle.paging.specs.Frame.{guest}
 use Rattle.paging.specs.Numbers.{each}
 use Rattle.tables.specs.State.{machine64, with_record, root_of}

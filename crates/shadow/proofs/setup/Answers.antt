@@ -1,22 +1,10 @@
 -- A setup that is refused changes nothing; one that is accepted zeroes the buffers and sets the roots.
-use mathlib.Core.Path.{◌≡◌, sym, ap, ◌∙◌}
+use mathlib.Core.Path.{sym, ◌∙◌}
 use mathlib.Core.List.{[]}
-use Rattle.std.proofs.Common.{rules, Result, Err}
-use Rattle.rules.specs.declared.Refusal.{Refusal}
-use Rattle.rules.proofs.Refusals.{some_number}
+use Rattle.std.proofs.Common.{rules}
 use Rattle.tables.specs.State.{shadow_of, state_of, machine64}
-use Rattle.shadow.specs.declared.Answer.{Answer}
-use Rattle.shadow.specs.Answer.{by_number, replies}
-use Rattle.shadow.proofs.Starting.{accepted_sizes, setup_exact, setup_cr3s, setup_sized, setup_refused, setup_done}
+use Rattle.shadow.proofs.Starting.{accepted_sizes, setup_exact, setup_cr3s, setup_sized, setup_done}
 use Rattle.shadow.proofs.setup.Goals as goal
-
-pub returns-in_err-test_setup : goal.returns-in_err-test_setup
-returns-in_err-test_setup c =
-    let a = c.args in
-    let s = state_of [] (shadow_of a.pool.now a.records.now) a.slots.now in
-    let q : c.from_residual.result ≡ Err c.in_err-test_setup.field-0.0 = search rules in
-    ap (λ (r : Result Answer Refusal). replies (by_number r) s) q
-    ∙ setup_refused (machine64 a.z) a.map.now a.cr3s.now s c.in_err-test_setup.ensures (some_number c.in_err-test_setup.field-0.0)
 
 pub set_roots-requires : goal.set_roots-requires
 set_roots-requires c =
