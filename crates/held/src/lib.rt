@@ -5,7 +5,7 @@
 ghost use Rattle.std.specs.Prelude.{◌≡◌, ◌+◌, ◌-◌, ◌*◌, ◌≤◌, ◌<◌, length};
 ghost use Rattle.paging.specs.Layout.{tables64, frame_words};
 ghost use Rattle.held.specs.Work.{cell, work_bytes, HasByte};
-ghost use Rattle.held.specs.FollowCode.{step_in, followed, reread, reread_all, reread_at, reread_word, cleared, restarted, Room};
+ghost use Rattle.held.specs.FollowCode.{step_in, followed, reread, reread_all, reread_at, reread_word, restarted, Room};
 ghost use Rattle.paging.specs.declared.Guest.{Guest};
 
 use paging::{Guest, Step, Walk};
