@@ -2,11 +2,10 @@
 // Everything is tested before anything is written; then the events are taken one by one, with the held walks as bytes.
 #![tactic(auto)]
 
-ghost use Rattle.std.specs.Prelude.{◌≡◌, ℕ, ◌+◌, ◌-◌, ◌*◌, ◌/◌, ◌%◌, ◌≤◌, ◌<◌, length, List};
-ghost use Rattle.held.specs.Work.{work_bytes};
+ghost use Rattle.std.specs.Prelude.{◌≡◌, ℕ, ◌+◌, ◌*◌, ◌/◌, ◌≤◌, ◌<◌, length, List};
 ghost use Rattle.rules.specs.Refusal.{refusal_of};
 ghost use Rattle.rules.specs.History.{setup64, event_refusal};
-ghost use Rattle.listing.specs.Call.{Lent, asked, lent, sizes_fit, first_refusal, list_refusal, ListCall};
+ghost use Rattle.listing.specs.Call.{asked, lent, sizes_fit, first_refusal, list_refusal, ListCall};
 ghost use Rattle.rules.specs.Numbers.{event_of};
 ghost use Rattle.listing.specs.AnswerCode.{Answerable, Answers};
 ghost use Rattle.listing.specs.ReplayCode.{Reach, replay_of, forgets, applied, replayed};
