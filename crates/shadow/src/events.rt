@@ -100,20 +100,19 @@ pub fn extend(map: &[u64], pool: &[u64], slots: &mut [u64], z: Sizes, p: u64, k:
     requires stands { Standing slots.old p k }
     ensures { (w records : List ℕ) → gives result (state_of w (shadow_of pool.now records) slots.new) ≡ after_extend (machine64 z) map.now p k (state_of w (shadow_of pool.now records) slots.old) }
 {
-    let at = slots::slot_at(p, k);
-    let mark = slots[at];
-    if mark < 2 {
+    let slot = slots::slot_of(slots, p, k);
+    if slot.mark < 2 {
         return Answer::NoStep;
     }
-    let page = slots[at + 1];
-    let e = paging::entry_at(pool, slots[at + 2] / 8, paging::index_of(page, mark - 1));
+    let level = slot.mark - 1;
+    let e = paging::entry_at(pool, slot.place, paging::index_of(slot.page, level));
     if !paging::present(e) {
         return Answer::NoStep;
     }
-    let Some(place) = place_below(map, z, mark - 1, e) else {
+    let Some(place) = place_below(map, z, level, e) else {
         return Answer::NoStep;
     };
-    let rights = paging::shared_rights(slots[at + 2] % 8, paging::rights_of(e));
-    slots::set_slot(slots, p, k, mark - 1, page, place, rights);
+    let rights = paging::shared_rights(slot.rights, paging::rights_of(e));
+    slots::set_slot(slots, p, k, level, slot.page, place, rights);
     Answer::Done
 }
