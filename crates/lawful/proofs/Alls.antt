@@ -1,5 +1,5 @@
 -- Tests of all numbers below n, by a loop or by `all` over the range; and RW as the lowest of an entry's rights.
-use Rattle.std.proofs.Common.{◌≡◌, Bool, true, false, List, ℕ, zero, suc, ◌+◌, ◌%◌, ◌<◌, length, Option, MatchOption, zero-add, refl, sym, ◌∙◌, arith}
+use Rattle.std.proofs.Common.{◌≡◌, Bool, true, false, List, ℕ, zero, suc, ◌%◌, ◌<◌, length, Option, MatchOption, zero-add, sym, arith}
 use Rattle.std.specs.Bool.{MatchBool}
 use Rattle.std.specs.List.{range_with_len, AllWithin, HoldsAt, FoldsTo}
 use Rattle.std.specs.Fn.{Called}

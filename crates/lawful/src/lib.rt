@@ -49,7 +49,6 @@ fn is_made_with(d: u64, e: u64) -> bool
 
 impl<'a> Known<'a> {
     // The hint saves most searches; whatever the hints are, the answer is the same.
-    #[tactic(auto, using(crate::proofs::Hints::stands))]
     fn is_mapped(&self, f: u64) -> bool
         ensures { result ≡ is_mapped self.now.map.now f }
     {
@@ -85,7 +84,7 @@ impl<'a> Known<'a> {
     }
 
     // Whether entry e of t, if it is present and above level 1, names a table of the same share, one level lower.
-    #[tactic(auto, using(tables::proofs::Names::few, tables::proofs::Names::named_small, tables::proofs::Names::named_none, crate::proofs::Strays::stray), unfolding(crate::specs::Rules::names_lower))]
+    #[tactic(auto, using(tables::proofs::Names::bounds, tables::proofs::Names::named_none, crate::proofs::Strays::stray), unfolding(crate::specs::Rules::names_lower))]
     fn names_lower(&self, t: u64, e: u64) -> bool
         requires { t < table_count (machine64 self.now.z) }
         ensures { result ≡ names_lower (machine64 self.now.z) self.now.records.now t e }

@@ -1,4 +1,4 @@
-use Rattle.std.proofs.Common.{◌≡◌, ◌<◌, sym, ◌∙◌, ap, arith}
+use Rattle.std.proofs.Common.{sym, ◌∙◌, ap}
 use Rattle.paging.proofs.Numbers.{all_fails}
 use Rattle.paging.proofs.Tests.{positive}
 use Rattle.tables.specs.State.{machine64}

@@ -1,4 +1,4 @@
-use Rattle.std.proofs.Common.{ap, refl, rules}
+use Rattle.std.proofs.Common.{refl, rules}
 use Rattle.paging.specs.Numbers.{all}
 use Rattle.tables.specs.State.{machine64}
 use Rattle.lawful.specs.Rules.{slot_right}

@@ -1,4 +1,4 @@
-use Rattle.std.proofs.Common.{ap, refl, rules}
+use Rattle.std.proofs.Common.{rules}
 use Rattle.tables.specs.State.{shadow_of, machine64, table_count}
 use Rattle.lawful.specs.Rules.{table_right}
 use Rattle.lawful.proofs.Alls.{all_over}

@@ -1,4 +1,4 @@
-use Rattle.std.proofs.Common.{◌≡◌, length, sym, ap, ◌∙◌, arith}
+use Rattle.std.proofs.Common.{sym, ap, ◌∙◌, arith}
 use Rattle.tables.specs.State.{machine64, named}
 use Rattle.tables.proofs.Names.{few, named_is, named_none}
 use Rattle.lawful.proofs.Tallies.{tally_begin, tally_end, tally_small, tally_hit, tally_miss}
