@@ -70,7 +70,7 @@ pub fn access(
     let page = paging::page_of(a);
     let q = paging::request_of(request);
     if let Some(k) = slots::serving_slot(slots, p, page, q) {
-        let place = slots[slots::slot_at(p, k) + 2] / 8;
+        let place = slots::slot_of(slots, p, k).place;
         return Answer::Address(paging::host_address(paging::host_of(map, Guest(place)), a));
     }
     let w = tables::path_to(pool, z, p, page, 1);
