@@ -107,22 +107,24 @@ pub fn extend(map: &[u64], pool: &[u64], slots: &mut [u64], z: Sizes, p: u64, k:
     requires stands { Standing slots.old p k }
     ensures { (w records : List ℕ) → gives result (state_of w (shadow_of pool.now records) slots.new) ≡ after_extend (machine64 z) map.now p k (state_of w (shadow_of pool.now records) slots.old) }
 {
-    let s = slots::slot_of(slots, p, k);
-    if s.mark < 2 {
+    let slot = slots::slot_of(slots, p, k);
+    if slot.mark < 2 {
         return Answer::NoStep;
     }
-    let e = paging::entry_at(pool, s.place, paging::index_of(s.page, s.mark - 1));
+    let level = slot.mark - 1;
+    let e = paging::entry_at(pool, slot.place, paging::index_of(slot.page, level));
     if !paging::present(e) {
         return Answer::NoStep;
     }
-    let Some(place) = place_below(map, z, s.mark - 1, e) else {
+    let Some(place) = place_below(map, z, level, e) else {
         return Answer::NoStep;
     };
+    let rights = paging::shared_rights(slot.rights, paging::rights_of(e));
     let below = Slot {
-        mark: s.mark - 1,
+        mark: level,
         place,
-        rights: paging::shared_rights(s.rights, paging::rights_of(e)),
-        ..s
+        rights,
+        ..slot
     };
     slots::set_slot(slots, p, k, below);
     Answer::Done
