@@ -45,6 +45,7 @@ fn follow(words: &[u64], work: &mut [u8], at: AskedPage, from: Walk)
     ensures { work.new ≡ followed tables64 at.frames at.page words.now from work.old }
 {
     let mut w = from;
+    // Kept: a loop, since each walk is what the one before goes on to, and a marked one ends it too.
     loop {
         let k = cell_of(at.frames, w);
         if work[k] == 1 {

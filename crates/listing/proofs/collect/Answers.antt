@@ -40,20 +40,6 @@ third c = elim c.if-faults-2.branch [ then-faults-2 w ↦ next w.outcomes-is (sy
 kept : {x : List ℕ} (s : Outcomes) {o : Out} → x ≡ s.buffer.now → out s ≡ o → out_of s.count x ≡ o
 kept s e h = ap (out_of s.count) e ∙ h
 
-pub push-requires : goal.push-requires
-push-requires c = omega (arith, c.addresses.ensures.few, c.addresses.ensures.size, c.requires.4)
-
-pub push-requires-then-lacks : goal.push-requires-then-lacks
-push-requires-then-lacks c =
-    let m = more (first (goal.at.push-requires-then-lacks c).Joined-faults) in
-    omega (arith, m.0, m.1, c.addresses.ensures.few, c.addresses.ensures.size, c.requires.4)
-
-pub push-requires-then-faults-2 : goal.push-requires-then-faults-2
-push-requires-then-faults-2 c =
-    let m = more (first (goal.at.push-requires-then-faults-2 c).Joined-faults) in
-    let l = more (second (goal.at.push-requires-then-faults-2 c).Joined-lacks) in
-    omega (arith, m.0, m.1, l.0, l.1, c.addresses.ensures.few, c.addresses.ensures.size, c.requires.4)
-
 pub returns : goal.returns
 unfolding collected
 returns c =
