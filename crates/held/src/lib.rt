@@ -2,10 +2,10 @@
 // A walk has at most one extension, so closing under extension is following a chain.
 #![tactic(auto)]
 
-ghost use Rattle.std.specs.Prelude.{◌≡◌, ◌+◌, ◌-◌, ◌*◌, ◌≤◌, ◌<◌, length};
+ghost use Rattle.std.specs.Prelude.{◌≡◌, ◌*◌, ◌≤◌, ◌<◌, length};
 ghost use Rattle.paging.specs.Layout.{tables64, frame_words};
 ghost use Rattle.held.specs.Work.{cell, work_bytes, HasByte};
-ghost use Rattle.held.specs.FollowCode.{step_in, followed, reread, reread_all, reread_at, reread_word, cleared, restarted, Room};
+ghost use Rattle.held.specs.FollowCode.{step_in, followed, reread, reread_all, reread_at, reread_word, restarted, Room};
 ghost use Rattle.paging.specs.declared.Guest.{Guest};
 
 use paging::{Guest, Step, Walk};
@@ -45,6 +45,7 @@ fn follow(words: &[u64], work: &mut [u8], at: AskedPage, from: Walk)
     ensures { work.new ≡ followed tables64 at.frames at.page words.now from work.old }
 {
     let mut w = from;
+    // Kept: a loop, since each walk is what the one before goes on to, and a marked one ends it too.
     loop {
         let k = cell_of(at.frames, w);
         if work[k] == 1 {

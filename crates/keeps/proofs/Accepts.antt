@@ -1,8 +1,8 @@
 -- Where the state rules hold a call is refused for its own event only, with that event's number; so it is accepted where the
 -- event is within the ranges.
 use mathlib.Core.Path.{◌≡◌, refl, sym, ◌∙◌}
-use mathlib.Core.Bool.{true, not, ◌&&◌}
-use mathlib.Core.List.{List, [], ◌∷◌}
+use mathlib.Core.Bool.{true, ◌&&◌}
+use mathlib.Core.List.{List}
 use Prim.Native.Nat.{ℕ, ◌*◌}
 use native.Mathlib.Decide.{ℕ_discrete}
 use native.Mathlib.Omega.{arith}
@@ -11,7 +11,6 @@ use lib.ListN.{length}
 use borrow.Author.Tests.{eq-eqb, le-leb}
 use Rattle.paging.specs.Layout.{frame_words}
 use Rattle.rules.specs.declared.Event.{Event}
-use Rattle.rules.specs.Refusal.{test, refusal}
 use Rattle.rules.specs.History.{event_refusal}
 use Rattle.tables.specs.State.{Machine, State, table_count, record_size}
 use Rattle.lawful.specs.Rules.{lawful}

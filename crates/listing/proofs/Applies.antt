@@ -60,10 +60,6 @@ module _ (G p page : ℕ) (e : Event) (s : Replay) where
         unfolding applied
         applied-cr3 k = simp (ne_eqb e.kind 1 no_store, eq-eqb e.proc p mine, ne_eqb e.kind 2 no-invlpg, eq-eqb e.kind 3 k)
 
-        pub applied_none : (e.kind ≡ 3 → ⊥) → applied G p page e s ≡ s
-        unfolding applied
-        applied_none n = simp (ne_eqb e.kind 1 no_store, eq-eqb e.proc p mine, ne_eqb e.kind 2 no-invlpg, ne_eqb e.kind 3 n)
-
   pub applied_quiet : (e.kind ≡ 1 → ⊥) → (e.kind ≡ 2 → ⊥) → (e.kind ≡ 3 → ⊥) → applied G p page e s ≡ s
   unfolding applied
   applied_quiet a b c = simp (ne_eqb e.kind 1 a, ne_eqb e.kind 2 b, ne_eqb e.kind 3 c, and-false)

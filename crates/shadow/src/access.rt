@@ -70,8 +70,8 @@ pub fn access(
     let page = paging::page_of(a);
     let q = paging::request_of(request);
     if let Some(k) = slots::serving_slot(slots, p, page, q) {
-        let place = slots[slots::slot_at(p, k) + 2] / 8;
-        return Answer::Address(paging::host_address(paging::host_of(map, Guest(place)), a));
+        let place = Guest(slots::slot_of(slots, p, k).place);
+        return Answer::Address(paging::host_address(paging::host_of(map, place), a));
     }
     let w = tables::path_to(pool, z, p, page, 1);
     let e = paging::entry_at(pool, w.table, paging::index_of(page, 1));

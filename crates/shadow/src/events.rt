@@ -9,6 +9,7 @@ ghost use Rattle.shadow.specs.ReadyCode.{Owner, Standing};
 
 use crate::Answer;
 use paging::{Guest, Host};
+use slots::Slot;
 use tables::Sizes;
 
 pub fn store(words: &mut [u64], a: u64, b: u64) -> Answer
@@ -67,7 +68,13 @@ pub fn begin(slots: &mut [u64], z: Sizes, p: u64, a: u64, k: u64) -> Answer
     requires slot { k < slot_count }
     ensures { (w : List ℕ) (h : Shadow) → gives result (state_of w h slots.new) ≡ after_begin (machine64 z) p a k (state_of w h slots.old) }
 {
-    slots::set_slot(slots, p, k, 5, paging::page_of(a), tables::root_of(z, p), 7);
+    let whole = Slot {
+        mark: 5,
+        page: paging::page_of(a),
+        place: tables::root_of(z, p),
+        rights: 7,
+    };
+    slots::set_slot(slots, p, k, whole);
     Answer::Done
 }
 
@@ -100,20 +107,25 @@ pub fn extend(map: &[u64], pool: &[u64], slots: &mut [u64], z: Sizes, p: u64, k:
     requires stands { Standing slots.old p k }
     ensures { (w records : List ℕ) → gives result (state_of w (shadow_of pool.now records) slots.new) ≡ after_extend (machine64 z) map.now p k (state_of w (shadow_of pool.now records) slots.old) }
 {
-    let at = slots::slot_at(p, k);
-    let mark = slots[at];
-    if mark < 2 {
+    let slot = slots::slot_of(slots, p, k);
+    if slot.mark < 2 {
         return Answer::NoStep;
     }
-    let page = slots[at + 1];
-    let e = paging::entry_at(pool, slots[at + 2] / 8, paging::index_of(page, mark - 1));
+    let level = slot.mark - 1;
+    let e = paging::entry_at(pool, slot.place, paging::index_of(slot.page, level));
     if !paging::present(e) {
         return Answer::NoStep;
     }
-    let Some(place) = place_below(map, z, mark - 1, e) else {
+    let Some(place) = place_below(map, z, level, e) else {
         return Answer::NoStep;
     };
-    let rights = paging::shared_rights(slots[at + 2] % 8, paging::rights_of(e));
-    slots::set_slot(slots, p, k, mark - 1, page, place, rights);
+    let rights = paging::shared_rights(slot.rights, paging::rights_of(e));
+    let below = Slot {
+        mark: level,
+        place,
+        rights,
+        ..slot
+    };
+    slots::set_slot(slots, p, k, below);
     Answer::Done
 }

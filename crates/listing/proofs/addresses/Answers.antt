@@ -1,15 +1,13 @@
 use mathlib.Core.Path.{◌≡◌, refl, sym, ap, ◌∙◌}
-use mathlib.Core.Bool.{Bool, true, false}
-use mathlib.Core.List.{List}
+use mathlib.Core.Bool.{Bool}
 use Prim.Native.Nat.{ℕ}
 use native.Mathlib.Omega.{arith}
 use lib.ListN.{length}
-use Rattle.paging.specs.Numbers.{each}
 use Rattle.paging.proofs.Numbers.{each_none, each_more}
 use Rattle.paging.specs.Frame.{guest}
 use Rattle.rules.specs.declared.Outcome.TheVariants.{Address}
 use Rattle.listing.specs.declared.Outcomes.{Outcomes}
-use Rattle.listing.specs.CollectCode.{Out, out_of, written, pushed, serves, addresses}
+use Rattle.listing.specs.CollectCode.{Out, out_of, pushed, serves, addresses}
 use Rattle.listing.proofs.Pairs.{pushed_count, pushed_size}
 use Rattle.listing.proofs.addresses.Goals as goal
 use Rattle.listing.proofs.addresses.Goals.{Joined-serves, then-serves, else-serves}

@@ -1,14 +1,14 @@
 use mathlib.Core.Path.{◌≡◌, refl, sym, ap, ◌∙◌}
-use mathlib.Core.Bool.{Bool, true, false}
+use mathlib.Core.Bool.{Bool}
 use mathlib.Core.List.{List}
-use Prim.Native.Nat.{ℕ, ◌+◌, ◌*◌, ◌<◌, ◌≤◌}
+use Prim.Native.Nat.{ℕ, ◌+◌, ◌≤◌}
 use Rattle.std.proofs.Common.{rules}
 use native.Mathlib.Omega.{arith}
 use lib.ListN.{length}
 use Rattle.rules.specs.declared.Outcome.TheVariants.{Fault}
 use Rattle.rules.specs.declared.Outcome.{Outcome}
 use Rattle.listing.specs.declared.Outcomes.{Outcomes}
-use Rattle.listing.specs.CollectCode.{Out, out_of, pushed, lacks, stops, is_absent, is_beyond, collected}
+use Rattle.listing.specs.CollectCode.{Out, out_of, pushed, collected}
 use Rattle.listing.proofs.Pairs.{pushed_count, pushed_size}
 use Rattle.listing.proofs.collect.Goals as goal
 use Rattle.listing.proofs.collect.Goals.{Joined-faults, then-faults, else-faults, Joined-lacks, then-lacks, else-lacks, Joined-faults-2, then-faults-2, else-faults-2}
@@ -39,20 +39,6 @@ third c = elim c.if-faults-2.branch [ then-faults-2 w ↦ next w.outcomes-is (sy
 -- the caller's buffer is the one that was written
 kept : {x : List ℕ} (s : Outcomes) {o : Out} → x ≡ s.buffer.now → out s ≡ o → out_of s.count x ≡ o
 kept s e h = ap (out_of s.count) e ∙ h
-
-pub push-requires : goal.push-requires
-push-requires c = omega (arith, c.addresses.ensures.few, c.addresses.ensures.size, c.requires.4)
-
-pub push-requires-then-lacks : goal.push-requires-then-lacks
-push-requires-then-lacks c =
-    let m = more (first (goal.at.push-requires-then-lacks c).Joined-faults) in
-    omega (arith, m.0, m.1, c.addresses.ensures.few, c.addresses.ensures.size, c.requires.4)
-
-pub push-requires-then-faults-2 : goal.push-requires-then-faults-2
-push-requires-then-faults-2 c =
-    let m = more (first (goal.at.push-requires-then-faults-2 c).Joined-faults) in
-    let l = more (second (goal.at.push-requires-then-faults-2 c).Joined-lacks) in
-    omega (arith, m.0, m.1, l.0, l.1, c.addresses.ensures.few, c.addresses.ensures.size, c.requires.4)
 
 pub returns : goal.returns
 unfolding collected

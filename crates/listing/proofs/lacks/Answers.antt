@@ -1,4 +1,4 @@
-use Rattle.std.proofs.Common.{rules, tests, arith, ◌≡◌, sym, ap, take, drop, eqb, ℕ, ◌*◌, ◌+◌, ◌%◌, ◌&&◌, not, true, false, length, get_or}
+use Rattle.std.proofs.Common.{rules, tests, arith, ◌≡◌, sym, ap, take, eqb, ℕ, ◌*◌, ◌%◌, ◌&&◌, not, true, false}
 use Rattle.std.proofs.lemmas.List.{get_or-take, length-take}
 use Rattle.std.proofs.lemmas.Iterator.{cases_from_any, YieldsList-from_slice}
 use Rattle.std.proofs.lemmas.Iterator.Consumers.{YieldsList-from_enumerate}

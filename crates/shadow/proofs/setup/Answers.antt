@@ -1,4 +1,4 @@
--- A setup that is refused changes nothing; one that is accepted zeroes the buffers and sets the roots.
+-- A setup that is accepted zeroes the buffers and sets the roots.
 use mathlib.Core.Path.{sym, ◌∙◌}
 use mathlib.Core.List.{[]}
 use Rattle.std.proofs.Common.{rules}

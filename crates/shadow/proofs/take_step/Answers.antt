@@ -1,4 +1,4 @@
--- Each arm is the move that the kind decodes to.
+-- A store is the move that its kind decodes to.
 use mathlib.Core.Path.{sym, ap, ◌∙◌}
 use Rattle.rules.specs.Numbers.{kind_number}
 use Rattle.tables.specs.State.{shadow_of, state_of, machine64}

@@ -1,4 +1,4 @@
--- Three ways out: a slot, the shadow path, a miss.
+-- The numbers on the way are small; the shadow path answers, or a miss.
 use mathlib.Core.Path.{◌≡◌, refl, sym, ap, ◌∙◌, subst⁻¹}
 use Prim.Native.Nat.{ℕ, ◌<◌, ◌≤◌}
 use native.Mathlib.Omega.{arith}

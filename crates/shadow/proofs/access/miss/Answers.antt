@@ -1,4 +1,4 @@
--- The walk ends in a fault, without a right, or in a fill.
+-- Where the walk is whole, its last table and its rights are in range.
 use mathlib.Core.Path.{◌≡◌, ap, ◌∙◌}
 use Prim.Native.Nat.{◌<◌, ◌^◌}
 use native.Mathlib.Omega.{arith}
