@@ -13,7 +13,7 @@ use Rattle.paging.specs.Request.{request_of, enough}
 use Rattle.paging.specs.Walk.{meet}
 use Rattle.paging.proofs.Finite.{at-below}
 use Rattle.paging.proofs.Tests.{and_l, and_r}
-use Rattle.paging.proofs.Rights.{meet_small}
+use Rattle.paging.proofs.Meets.{meet_small}
 use Rattle.tables.specs.declared.Path.{Path}
 use Rattle.tables.specs.State.{Machine, State, table_count, root_of, entry_of, top, down, next_entry, descend, path_to}
 use Rattle.slots.specs.Slots.{place_in, serving_slot}

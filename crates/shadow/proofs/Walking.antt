@@ -14,7 +14,7 @@ use Rattle.paging.specs.declared.Stop.TheVariants.{Absent, Beyond, Complete}
 use Rattle.paging.specs.Layout.{Layout, get, put, index, with_a, rights_of}
 use Rattle.paging.specs.Request.{enough}
 use Rattle.paging.specs.Walk.{Step, base_of, start, step}
-use Rattle.paging.proofs.Rights.{meet_small}
+use Rattle.paging.proofs.Meets.{meet_small}
 use Rattle.paging.proofs.Steps.{goes}
 use Rattle.tables.specs.State.{Machine, State, state_of, shadows, root_of}
 use Rattle.shadow.specs.declared.Answer.TheVariants.{Fault as Faulted, Again}

@@ -9,7 +9,7 @@ use Rattle.paging.specs.declared.Stop.{Stop}
 use Rattle.paging.specs.declared.Stop.TheVariants.{Absent, Beyond, Complete}
 use Rattle.paging.specs.Layout.{tables64, get, put, index, rights_of, with_a}
 use Rattle.paging.proofs.Indices.{index_small}
-use Rattle.paging.proofs.Rights.{meet_small}
+use Rattle.paging.proofs.Meets.{meet_small}
 use Rattle.paging.proofs.Steps.{Goes, goes, completed}
 use Rattle.guest.specs.GuestWalk.{guest_walk, by_step, walk_from, walk_guest}
 use Rattle.guest.proofs.Walks.{walk_step, walk_end}

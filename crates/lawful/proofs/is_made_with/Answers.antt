@@ -4,7 +4,7 @@ use Prim.Native.Nat.{ℕ}
 use native.Mathlib.Omega.{arith}
 use lib.Dec.{eqb}
 use Rattle.paging.specs.Layout.{tables64, compose}
-use Rattle.paging.proofs.Rights.{rights_small}
+use Rattle.paging.proofs.Meets.{rights_small}
 use Rattle.tables.proofs.Names.{frame_small}
 use Rattle.lawful.specs.Rules.{is_made_with}
 use Rattle.lawful.proofs.is_made_with.Goals as goal

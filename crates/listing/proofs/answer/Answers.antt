@@ -7,7 +7,7 @@ use lib.ListN.{length}
 use Rattle.paging.specs.declared.Request.{Request}
 use Rattle.paging.specs.Frame.{guest}
 use Rattle.paging.specs.Layout.{tables64}
-use Rattle.paging.proofs.Rights.{request_small}
+use Rattle.paging.proofs.Meets.{request_small}
 use Rattle.held.specs.FollowCode.{restarted}
 use Rattle.listing.specs.ReplayCode.{Replay, replay_of, replayed}
 use Rattle.listing.specs.CollectCode.{collected}

@@ -3,7 +3,7 @@ use Prim.Native.Nat.{◌+◌}
 use native.Mathlib.Omega.{arith}
 use Rattle.paging.specs.Layout.{tables64}
 use Rattle.paging.proofs.Indices.{index_small}
-use Rattle.paging.proofs.Rights.{rights_small}
+use Rattle.paging.proofs.Meets.{rights_small}
 use Rattle.tables.specs.State.{machine64, shadow_of}
 use Rattle.tables.proofs.Fills.{hang-next}
 use Rattle.tables.proofs.hang_next.Goals as goal

@@ -6,7 +6,7 @@ use Rattle.paging.specs.declared.Host.{Host}
 use Rattle.paging.specs.Frame.{guest, host_of}
 use Rattle.paging.specs.Layout.{tables64, bit, compose}
 use Rattle.paging.specs.Walk.{meet}
-use Rattle.paging.proofs.Rights.{rights_small, meet_small}
+use Rattle.paging.proofs.Meets.{rights_small, meet_small}
 use Rattle.tables.specs.Steps.{leaf_of}
 use Rattle.tables.proofs.leaf_of.Goals as goal
 

@@ -3,7 +3,7 @@ use Prim.Native.Nat.{ℕ, ◌-◌}
 use native.Mathlib.Omega.{arith}
 use Rattle.paging.specs.Layout.{tables64, get, rights_of}
 use Rattle.paging.proofs.Indices.{index_small}
-use Rattle.paging.proofs.Rights.{meet_small}
+use Rattle.paging.proofs.Meets.{meet_small}
 use Rattle.tables.specs.declared.Path.{Path}
 use Rattle.tables.specs.State.{machine64, down, next_entry, descend}
 use Rattle.tables.proofs.Names.{few, root_small, named_small}

@@ -4,7 +4,7 @@ use Prim.Native.Nat.{ℕ, ◌-◌}
 use native.Mathlib.Omega.{arith}
 use Rattle.paging.specs.Layout.{tables64}
 use Rattle.paging.specs.Walk.{meet}
-use Rattle.paging.proofs.Rights.{rights_small}
+use Rattle.paging.proofs.Meets.{rights_small}
 use Rattle.tables.proofs.step_down.Goals as goal
 
 pub shared_rights-requires : goal.shared_rights-requires

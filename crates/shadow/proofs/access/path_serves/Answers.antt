@@ -4,7 +4,7 @@ use native.Mathlib.Omega.{arith}
 use Rattle.paging.specs.Layout.{tables64}
 use Rattle.paging.specs.Request.{enough}
 use Rattle.paging.specs.Walk.{meet}
-use Rattle.paging.proofs.Rights.{rights_small, meet_small}
+use Rattle.paging.proofs.Meets.{rights_small, meet_small}
 use Rattle.shadow.proofs.access.path_serves.Goals as goal
 
 pub returns-then-not-present : goal.returns-then-not-present

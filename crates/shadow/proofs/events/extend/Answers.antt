@@ -6,7 +6,7 @@ use lib.ListN.{get_or}
 use Rattle.paging.specs.Layout.{tables64}
 use Rattle.paging.specs.Walk.{meet}
 use Rattle.paging.proofs.Indices.{index_small}
-use Rattle.paging.proofs.Rights.{rights_small, meet_small}
+use Rattle.paging.proofs.Meets.{rights_small, meet_small}
 use Rattle.tables.specs.State.{shadow_of, state_of, machine64}
 use Rattle.tables.proofs.Names.{few}
 use Rattle.shadow.proofs.Extends.{place_small, extend_early, extend_absent, extend_on, extend_off}
