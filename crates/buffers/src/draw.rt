@@ -1,70 +1,62 @@
 // Numbers that look drawn at random, by a linear congruence: buffers are filled with them, and held to them afterwards.
 
-pub fn next(x: u64) -> u64 {
-    (x % 2147483648 * 1103515245 + 12345) % 2147483648
+// Each number is drawn from the one before; the first from a seed.
+#[derive(Clone, Copy)]
+pub struct Draws {
+    last: u64,
 }
 
-// The upper bits: the lower ones repeat early.
-pub fn high(x: u64) -> u64 {
-    x / 65536
-}
+impl Draws {
+    pub fn new(seed: u64) -> Draws {
+        Draws { last: seed }
+    }
 
-fn byte(x: u64) -> u8 {
-    (x / 65536 % 256) as u8
-}
+    fn number(&mut self) -> u64 {
+        self.last = (self.last % 2147483648 * 1103515245 + 12345) % 2147483648;
+        self.last
+    }
 
-pub fn fill(xs: &mut [u64], seed: u64) {
-    let mut x = seed;
-    for place in xs.iter_mut() {
-        x = next(x);
-        *place = x;
+    // The upper bits of a number: the lower ones repeat early.
+    pub fn high(&mut self) -> u64 {
+        self.number() / 65536
     }
 }
 
-pub fn fill_bytes(xs: &mut [u8], seed: u64) {
-    let mut x = seed;
-    for place in xs.iter_mut() {
-        x = next(x);
-        *place = byte(x);
+impl Iterator for Draws {
+    type Item = u64;
+
+    fn next(&mut self) -> Option<u64> {
+        Some(self.number())
+    }
+}
+
+// An element of a buffer, as a number that was drawn gives it.
+pub trait Drawn: Copy + PartialEq {
+    fn drawn(x: u64) -> Self;
+}
+
+impl Drawn for u64 {
+    fn drawn(x: u64) -> u64 {
+        x
+    }
+}
+
+impl Drawn for u8 {
+    fn drawn(x: u64) -> u8 {
+        (x / 65536 % 256) as u8
+    }
+}
+
+pub fn fill<T: Drawn>(xs: &mut [T], seed: u64) {
+    for (place, x) in xs.iter_mut().zip(Draws::new(seed)) {
+        *place = T::drawn(x);
     }
 }
 
 // Whether what was filled is still there, from the given place on.
-pub fn holds(xs: &[u64], from: usize, seed: u64) -> bool {
-    let mut x = seed;
-    for i in 0..xs.len() {
-        x = next(x);
-        if i >= from && xs[i] != x {
-            return false;
-        }
-    }
-    true
-}
-
-pub fn holds_bytes(xs: &[u8], from: usize, seed: u64) -> bool {
-    let mut x = seed;
-    for i in 0..xs.len() {
-        x = next(x);
-        if i >= from && xs[i] != byte(x) {
-            return false;
-        }
-    }
-    true
-}
-
-// The buffers that the list call is lent, each with numbers of its own.
-pub fn fill_all(words: &mut [u64], work: &mut [u8], outcomes: &mut [u64]) {
-    fill(words, 1);
-    fill_bytes(work, 2);
-    fill(outcomes, 3);
-}
-
-pub fn all_hold(words: &[u64], work: &[u8], outcomes: &[u64]) -> bool {
-    if !holds(words, 0, 1) {
-        return false;
-    }
-    if !holds_bytes(work, 0, 2) {
-        return false;
-    }
-    holds(outcomes, 0, 3)
+pub fn holds<T: Drawn>(xs: &[T], from: usize, seed: u64) -> bool {
+    xs.iter()
+        .zip(Draws::new(seed))
+        .skip(from)
+        .all(|(x, drawn)| *x == T::drawn(drawn))
 }

@@ -1,6 +1,8 @@
 // A guest of 256 frames and events on 4 processors, all drawn, for the largest list call.
 // Entries and stores keep to sixteen frames, 0, 17, .., 255, so that walks change often; 272 is beyond the guest.
-use crate::draw::{high, next};
+// Kept: an event's kind is a number here and no `rules::Kind`: the numbers of an event are what is drawn and what the call takes, and
+// this crate stands on no other.
+use crate::draw::Draws;
 
 const MAP_BASE: u64 = 1000;
 
@@ -15,12 +17,11 @@ fn entry(h: u64) -> u64 {
 }
 
 // Stores mostly; of each other kind one in 64.
-fn drawn_kind(h: u64) -> u64 {
-    let d = h % 64;
-    if d == 0 || d > 7 {
-        return 1;
+fn kind(h: u64) -> u64 {
+    match h % 64 {
+        k @ 1..=7 => k,
+        _ => 1,
     }
-    d
 }
 
 // Word, address or the page after it, frame, slot.
@@ -28,8 +29,7 @@ fn first_number(kind: u64, h: u64) -> u64 {
     match kind {
         1 => 512 * (17 * (h % 16)) + 1 + h / 16 % 4,
         3 => 17 * (h % 16),
-        6 => h % 8,
-        7 => h % 8,
+        6 | 7 => h % 8,
         _ => ADDRESS + 4096 * (h % 2),
     }
 }
@@ -43,45 +43,27 @@ fn second_number(kind: u64, h: u64) -> u64 {
     }
 }
 
-// An event's kind is drawn at its second place, and says what the last two are.
-fn kind_at(place: usize, kind: u64, h: u64) -> u64 {
-    if place == 1 {
-        return drawn_kind(h);
-    }
-    kind
+// Processor, kind, and the two numbers that the kind asks for.
+fn event(draws: &mut Draws) -> [u64; 4] {
+    let proc = draws.high() % 4;
+    let kind = kind(draws.high());
+    let first = first_number(kind, draws.high());
+    let second = second_number(kind, draws.high());
+    [proc, kind, first, second]
 }
 
-fn number_at(place: usize, kind: u64, h: u64) -> u64 {
-    match place {
-        0 => h % 4,
-        1 => kind,
-        2 => first_number(kind, h),
-        _ => second_number(kind, h),
-    }
-}
-
-pub fn put_events(events: &mut [u64]) {
-    let mut x = 1;
-    let mut kind = 1;
-    for (i, number) in events.iter_mut().enumerate() {
-        x = next(x);
-        kind = kind_at(i % 4, kind, high(x));
-        *number = number_at(i % 4, kind, high(x));
-    }
+pub fn put_events(events: &mut [[u64; 4]]) {
+    let mut draws = Draws::new(1);
+    events.fill_with(|| event(&mut draws));
 }
 
 pub fn put_entries(words: &mut [u64]) {
-    let mut x = 6;
-    for word in words.iter_mut() {
-        x = next(x);
-        *word = entry(high(x));
-    }
+    let mut draws = Draws::new(6);
+    words.fill_with(|| entry(draws.high()));
 }
 
-pub fn put_map(map: &mut [u64]) {
-    let mut f: u64 = MAP_BASE;
-    for frame in map.iter_mut() {
+pub fn put_map(map: &mut [u64; 256]) {
+    for (frame, f) in map.iter_mut().zip(MAP_BASE..) {
         *frame = f;
-        f = f.wrapping_add(1);
     }
 }

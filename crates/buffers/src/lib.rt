@@ -1,10 +1,10 @@
-// Buffers of numbers, for the programs of the gate: put, drawn, copied, compared, summed and printed; and filled from input.
+// Buffers of numbers, for the programs of the gate: put, drawn, copied, summed and printed; and filled from input.
 #![tactic(auto)]
 
 pub mod draw;
 pub mod guest;
 
-ghost use Rattle.std.specs.Prelude.{◌≤◌, length, IfOk};
+ghost use Rattle.std.specs.Prelude.{◌≤◌, ◌≡◌, length, slice_index, IfOk};
 
 use std::io;
 use std::io::Read;
@@ -24,47 +24,29 @@ pub fn print_numbers(rt: &impl Print, xs: &[u64]) -> io::Result<()> {
     Ok(())
 }
 
-fn print_pair(rt: &impl Print, tag: u64, value: u64) -> io::Result<()> {
-    print!(rt; " ({tag} {value})")
-}
-
 // The pairs that count, and no more than there are.
 pub fn print_pairs(rt: &impl Print, count: u64, xs: &[u64]) -> io::Result<()> {
-    for k in 0..xs.len() / 2 {
-        if k as u64 >= count {
-            return Ok(());
-        }
-        print_pair(rt, xs[2 * k], xs[2 * k + 1])?;
+    let (pairs, _) = xs.as_chunks::<2>();
+    for [tag, value] in pairs.iter().take(count as usize) {
+        print!(rt; " ({tag} {value})")?;
     }
     Ok(())
 }
 
 // Place k if its byte is 1; ? if it is neither 0 nor 1.
 fn print_mark(rt: &impl Print, k: u64, byte: u8) -> io::Result<()> {
-    if byte == 1 {
-        return print_number(rt, k);
+    match byte {
+        0 => Ok(()),
+        1 => print_number(rt, k),
+        _ => print(rt, b" ?"),
     }
-    if byte > 1 {
-        return print(rt, b" ?");
-    }
-    Ok(())
 }
 
-pub fn print_marks(rt: &impl Print, bytes: &[u8], end: usize) -> io::Result<()> {
+pub fn print_marks(rt: &impl Print, bytes: &[u8]) -> io::Result<()> {
     for (k, byte) in bytes.iter().enumerate() {
-        if k >= end {
-            return Ok(());
-        }
         print_mark(rt, k as u64, *byte)?;
     }
     Ok(())
-}
-
-pub fn print_either(rt: &impl Print, first: bool, a: &[u8], b: &[u8]) -> io::Result<()> {
-    if first {
-        return print(rt, a);
-    }
-    print(rt, b)
 }
 
 // Reads until the buffer is full or the input ends, and says how many bytes it put at the start. A read that fails is an error,
@@ -72,6 +54,7 @@ pub fn print_either(rt: &impl Print, first: bool, a: &[u8], b: &[u8]) -> io::Res
 pub fn read_full<R: Read>(reader: &mut R, to: &mut [u8]) -> io::Result<usize>
     ensures { IfOk result (λ n. n ≤ length to.new) }
 {
+    // Kept: no slice is walked by one; each turn goes on by as many bytes as a read gave.
     let mut at = 0;
     while at < to.len() {
         let n = reader.read(&mut to[at..])?;
@@ -84,23 +67,19 @@ pub fn read_full<R: Read>(reader: &mut R, to: &mut [u8]) -> io::Result<usize>
 }
 
 // What stands at a place, and 0 beyond the end.
-pub fn at(xs: &[u64], i: u64) -> u64 {
-    if i < xs.len() as u64 {
-        return xs[i as usize];
-    }
-    0
-}
-
-fn put(xs: &mut [u64], i: u64, x: u64) {
-    if i < xs.len() as u64 {
-        xs[i as usize] = x;
-    }
+pub fn at(xs: &[u64], i: u64) -> u64
+    ensures { result ≡ slice_index xs.now i }
+{
+    xs.get(i as usize).copied().unwrap_or(0)
 }
 
 // Puts places and values, one after the other, as a puzzle text lists words.
 pub fn put_pairs(xs: &mut [u64], pairs: &[u64]) {
-    for k in 0..pairs.len() / 2 {
-        put(xs, pairs[2 * k], pairs[2 * k + 1]);
+    let (pairs, _) = pairs.as_chunks::<2>();
+    for [i, x] in pairs {
+        if let Some(place) = xs.get_mut(*i as usize) {
+            *place = *x;
+        }
     }
 }
 
@@ -111,41 +90,9 @@ pub fn copy(to: &mut [u64], xs: &[u64]) {
     }
 }
 
-// Whether all of xs stands at the beginning of old.
-pub fn begins(old: &[u64], xs: &[u64]) -> bool {
-    for i in 0..xs.len() {
-        if i >= old.len() {
-            return false;
-        }
-        if old[i] != xs[i] {
-            return false;
-        }
-    }
-    true
-}
-
 // Three times the sum so far and the next element, so that each place counts.
-fn summed(total: u64, x: u64) -> u64 {
-    let twice = total.wrapping_add(total);
-    twice.wrapping_add(total).wrapping_add(x)
-}
-
-pub fn sum(xs: &[u64]) -> u64 {
-    let mut total: u64 = 0;
-    for x in xs {
-        total = summed(total, *x);
-    }
-    total
-}
-
-fn wide(x: u8) -> u64 {
-    x as u64
-}
-
-pub fn sum_bytes(xs: &[u8]) -> u64 {
-    let mut total: u64 = 0;
-    for x in xs {
-        total = summed(total, wide(*x));
-    }
-    total
+pub fn sum<T: Copy + Into<u64>>(xs: &[T]) -> u64 {
+    xs.iter().fold(0u64, |total, x| {
+        total.wrapping_mul(3).wrapping_add((*x).into())
+    })
 }

@@ -9,6 +9,7 @@ use native.Mathlib.Omega.{arith}
 use lib.Dec.{eqb}
 use lib.ListN.{length, get_or, drop}
 use borrow.Author.Tests.{eq-eqb, ne_eqb}
+use Rattle.std.specs.Prelude.{Result, Ok, Err}
 use Rattle.rules.specs.declared.Event.{Event}
 use Rattle.listing.specs.declared.Listed.{Listed}
 use Rattle.listing.specs.declared.Listed.TheVariants.{Count, Refused as Unlisted}
@@ -20,9 +21,9 @@ use Rattle.tables.specs.State.{Shadow, State, machine64}
 use Rattle.tables.specs.Steps.{free_count, empty_share}
 use Rattle.lawful.specs.Rules.{lawful}
 use Rattle.shadow.specs.declared.Answer.{Answer}
-use Rattle.shadow.specs.declared.Answer.TheVariants.{Done, Address, Fault, Again, NoStep, Refused}
+use Rattle.shadow.specs.declared.Answer.TheVariants.{Done, Address, Fault, Again, NoStep}
 use Rattle.shadow.specs.After.{after, moved}
-use Rattle.shadow.specs.Answer.{Result, refusal_of, kind_of}
+use Rattle.shadow.specs.Answer.{Reply, refusal_of, kind_of}
 use Rattle.shadow.specs.Refusals.{call_refusal, setup_refusal}
 use Rattle.shadow.specs.Moves.{decode}
 use Rattle.shadow.specs.Setup.{started}
@@ -64,18 +65,18 @@ module _ (q : Asked) (before after : Lent) {answer told : List ℕ} where
 
 module _ (z : Sizes) (map cr3s : List ℕ) (before after : State) where
   number_is : {n : ℕ} → SetupExport z map cr3s before n after → n ≡ setup_refusal (machine64 z) map cr3s before
-  number_is c = c.first ∙ ap (λ (x : Result). refusal_of x.answer) c.call ∙ setup_number (machine64 z) map cr3s before
+  number_is c = c.first ∙ ap (λ (x : Reply). refusal_of x.answer) c.call ∙ setup_number (machine64 z) map cr3s before
 
   pub setup_refuses : (n : ℕ) → SetupExport z map cr3s before n after
       → (n ≡ setup_refusal (machine64 z) map cr3s before) × (n < 12) × ((n ≡ 0 → ⊥) → after ≡ before)
   setup_refuses n c = (
     number_is c,
     omega (arith, number_is c, setup_below_twelve (machine64 z) map cr3s before),
-    λ some. ap (λ (x : Result). x.state) (c.call ∙ setup_refused (machine64 z) map cr3s before (λ e. some (number_is c ∙ e))),
+    λ some. ap (λ (x : Reply). x.state) (c.call ∙ setup_refused (machine64 z) map cr3s before (λ e. some (number_is c ∙ e))),
   )
 
   pub setup_does : SetupExport z map cr3s before 0 after → after ≡ started (machine64 z) cr3s before.words
-  setup_does c = ap (λ (x : Result). x.state) (c.call ∙ setup_done (machine64 z) map cr3s before (sym (number_is c)))
+  setup_does c = ap (λ (x : Reply). x.state) (c.call ∙ setup_done (machine64 z) map cr3s before (sym (number_is c)))
 
 -- ---- the event call
 
@@ -84,35 +85,35 @@ module _ (z : Sizes) (map : List ℕ) (e : Event) (before after' : State) {answe
       → Refuses 3 (call_refusal (machine64 z) map before e) (0 ∷ 0 ∷ []) before after' answer n told
   event_refuses c =
       refuses c (never_twelve (machine64 z) map before e)
-      (λ r g. ap (λ (x : Result). refusal_of x.answer) g ∙ event_number (machine64 z) map before e)
-      (λ r g some. let x = g ∙ event_refused (machine64 z) map before e some in (ap (λ (y : Result). y.state) x, ap (λ (y : Result). event_numbers y.answer) x))
+      (λ r g. ap (λ (x : Reply). refusal_of x.answer) g ∙ event_number (machine64 z) map before e)
+      (λ r g some. let x = g ∙ event_refused (machine64 z) map before e some in (ap (λ (y : Reply). y.state) x, ap (λ (y : Reply). event_numbers y.answer) x))
 
   module _ (c : EventExport z map e before after' answer 0 told) where
     ok : call_refusal (machine64 z) map before e ≡ 0
-    ok = let a = given c refl in sym (event_number (machine64 z) map before e) ∙ ap (λ (x : Result). refusal_of x.answer) (sym a.call) ∙ sym a.first
+    ok = let a = given c refl in sym (event_number (machine64 z) map before e) ∙ ap (λ (x : Reply). refusal_of x.answer) (sym a.call) ∙ sym a.first
 
     state_is : after' ≡ (after (machine64 z) map before e).state
-    state_is = ap (λ (x : Result). x.state) (given c refl).call
+    state_is = ap (λ (x : Reply). x.state) (given c refl).call
 
     told_is : told ≡ event_numbers (after (machine64 z) map before e).answer
-    told_is = let a = given c refl in a.laid ∙ ap (λ (x : Result). event_numbers x.answer) a.call
+    told_is = let a = given c refl in a.laid ∙ ap (λ (x : Reply). event_numbers x.answer) a.call
 
     pub event-does : let x = moved (machine64 z) map e.proc (decode e) before in (after' ≡ x.state) × (told ≡ event_numbers x.answer)
     event-does =
         let t = taken (machine64 z) map before e ok in
-        (state_is ∙ ap (λ (x : Result). x.state) t, told_is ∙ ap (λ (x : Result). event_numbers x.answer) t)
+        (state_is ∙ ap (λ (x : Reply). x.state) t, told_is ∙ ap (λ (x : Reply). event_numbers x.answer) t)
 
     pub event_keeps : lawful (machine64 z) map after' ≡ true
     event_keeps = rw state_is (keeps.event_keeps (machine64 z) map before e laid64 ok)
 
 -- only "again" has kind 3
-third : (x : Answer) → kind_of x ≡ 3 → x ≡ Again
-third Done k = absurd (omega arith)
-third (Address v) k = absurd (omega arith)
-third (Fault c) k = absurd (omega arith)
-third Again k = refl
-third NoStep k = absurd (omega arith)
-third (Refused n) k = absurd (omega arith)
+third : (x : Result Answer ℕ) → kind_of x ≡ 3 → x ≡ Ok Again
+third (Ok Done) k = absurd (omega arith)
+third (Ok (Address v)) k = absurd (omega arith)
+third (Ok (Fault c)) k = absurd (omega arith)
+third (Ok Again) k = refl
+third (Ok NoStep) k = absurd (omega arith)
+third (Err n) k = absurd (omega arith)
 
 pub again_address : (z : Sizes) (map : List ℕ) (e : Event) (before after' last : State) {answer answer' told : List ℕ} {n : ℕ}
     → EventExport z map e before after' answer 0 (0 ∷ 3 ∷ 0 ∷ []) → length answer' ≡ 3 → EventExport z map e after' last answer' n told
@@ -122,8 +123,8 @@ again_address z map e before after' last c three d =
     let again = third (after M map before e).answer (ap (λ (l : List ℕ). get_or l 1 0) (sym (told_is z map e before after' c))) in
     let (v, is) = keeps.again_address M map before e laid64 (ok z map e before after' c) again in
     let a = d.answered three in
-    let there : (after M map after' e).answer ≡ Address v = ap (λ (s : State). (after M map s e).answer) (state_is z map e before after' c) ∙ is in
-    (v, a.laid ∙ ap (λ (x : Result). event_numbers x.answer) a.call ∙ ap event_numbers there)
+    let there : (after M map after' e).answer ≡ Ok (Address v) = ap (λ (s : State). (after M map s e).answer) (state_is z map e before after' c) ∙ is in
+    (v, a.laid ∙ ap (λ (x : Reply). event_numbers x.answer) a.call ∙ ap event_numbers there)
 
 pub three_free : (z : Sizes) → 4 ≤ z.share → (p : ℕ) → p < z.processors → (s : Shadow) → 3 ≤ free_count (machine64 z) p (empty_share (machine64 z) p s).records
 three_free z spare p h s = enough_free (machine64 z) (omega arith) spare p h s

@@ -6,12 +6,13 @@ use native.Mathlib.Decide.{ℕ_discrete}
 use native.Mathlib.Omega.{arith}
 use lib.ListN.{length, get_or}
 use borrow.Author.Tests.{eq-eqb, ne_eqb}
+use Rattle.std.specs.Prelude.{Result, Ok, Err}
 use Rattle.rules.specs.declared.Event.{Event}
 use Rattle.tables.specs.State.{Machine, State}
 use Rattle.shadow.specs.declared.Answer.{Answer}
-use Rattle.shadow.specs.declared.Answer.TheVariants.{Done, Address, Fault, Again, NoStep, Refused}
+use Rattle.shadow.specs.declared.Answer.TheVariants.{Done}
 use Rattle.shadow.specs.After.{after}
-use Rattle.shadow.specs.Answer.{Result, gives, refusal_of}
+use Rattle.shadow.specs.Answer.{Reply, gives, refuses, refusal_of}
 use Rattle.shadow.specs.Refusals.{call_refusal, setup_refusal}
 use Rattle.shadow.specs.Setup.{started, after_setup}
 use Rattle.keeps.proofs.Theorems.{never_refused}
@@ -61,7 +62,7 @@ module _ {A B : Type 0} {size : ℕ} {numbers : A → List ℕ} {Gave : A → Ty
 
 module _ (M : Machine) (map cr3s : List ℕ) (s : State) where
   -- its two ends
-  pub setup_refused : (setup_refusal M map cr3s s ≡ 0 → ⊥) → after_setup M map cr3s s ≡ gives (Refused (setup_refusal M map cr3s s)) s
+  pub setup_refused : (setup_refusal M map cr3s s ≡ 0 → ⊥) → after_setup M map cr3s s ≡ refuses (setup_refusal M map cr3s s) s
   unfolding after_setup
   setup_refused some = simp (ne_eqb (setup_refusal M map cr3s s) 0 some)
 
@@ -73,27 +74,23 @@ module _ (M : Machine) (map cr3s : List ℕ) (s : State) where
   setup_number = go (ℕ_discrete (setup_refusal M map cr3s s) 0)
     where
       go : Dec (setup_refusal M map cr3s s ≡ 0) → refusal_of (after_setup M map cr3s s).answer ≡ setup_refusal M map cr3s s
-      go (yes z) = ap (λ (x : Result). refusal_of x.answer) (setup_done z) ∙ sym z
-      go (no z) = ap (λ (x : Result). refusal_of x.answer) (setup_refused z)
+      go (yes z) = ap (λ (x : Reply). refusal_of x.answer) (setup_done z) ∙ sym z
+      go (no z) = ap (λ (x : Reply). refusal_of x.answer) (setup_refused z)
 
 -- ---- the event call
 
 module _ (M : Machine) (map : List ℕ) (s : State) (e : Event) where
-  pub event_refused : (call_refusal M map s e ≡ 0 → ⊥) → after M map s e ≡ gives (Refused (call_refusal M map s e)) s
+  pub event_refused : (call_refusal M map s e ≡ 0 → ⊥) → after M map s e ≡ refuses (call_refusal M map s e) s
   unfolding after
   event_refused some = simp (ne_eqb (call_refusal M map s e) 0 some)
 
-  unrefused : (a : Answer) → ((n : ℕ) → a ≡ Refused n → ⊥) → refusal_of a ≡ 0
-  unrefused Done none = refl
-  unrefused (Address v) none = refl
-  unrefused (Fault c) none = refl
-  unrefused Again none = refl
-  unrefused NoStep none = refl
-  unrefused (Refused n) none = absurd (none n refl)
+  unrefused : (a : Result Answer ℕ) → ((n : ℕ) → a ≡ Err n → ⊥) → refusal_of a ≡ 0
+  unrefused (Ok a) none = refl
+  unrefused (Err n) none = absurd (none n refl)
 
   pub event_number : refusal_of (after M map s e).answer ≡ call_refusal M map s e
   event_number = go (ℕ_discrete (call_refusal M map s e) 0)
     where
       go : Dec (call_refusal M map s e ≡ 0) → refusal_of (after M map s e).answer ≡ call_refusal M map s e
       go (yes z) = unrefused (after M map s e).answer (never_refused M map s e z) ∙ sym z
-      go (no z) = ap (λ (x : Result). refusal_of x.answer) (event_refused z)
+      go (no z) = ap (λ (x : Reply). refusal_of x.answer) (event_refused z)

@@ -6,6 +6,7 @@ use Prim.Native.Nat.{ℕ, ◌<◌}
 use native.Mathlib.Omega.{arith}
 use lib.Dec.{T, eqb→eq}
 use lib.ListN.{length}
+use Rattle.std.specs.Prelude.{Result}
 use Rattle.paging.specs.Layout.{tables64}
 use Rattle.rules.specs.declared.Event.{Event}
 use Rattle.rules.specs.declared.Outcome.{Outcome}
@@ -23,7 +24,7 @@ use Rattle.demands.proofs.PlayLists.{lists-given}
 
 module _ {z : Sizes} {map cr3s words : List ℕ} {es : List Event} (p : Play z map cr3s words es) where
   -- an answer's numbers say what it says
-  numbers_say : {a : ℕ} {x : Answer} {o : Outcome} → D.Says (fresh p) (run p) a x o → Says z map a (event_numbers x) o
+  numbers_say : {a : ℕ} {x : Result Answer ℕ} {o : Outcome} → D.Says (fresh p) (run p) a x o → Says z map a (event_numbers x) o
   numbers_say (place inside) = address inside
   numbers_say code = fault
 

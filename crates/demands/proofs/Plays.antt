@@ -6,6 +6,7 @@ use mathlib.Core.List.{List, [], ◌∷◌}
 use Prim.Native.Nat.{ℕ, zero, suc, ◌+◌, ◌*◌, ◌/◌, ◌%◌, ◌≤◌, ◌<◌}
 use native.Mathlib.Omega.{arith}
 use lib.ListN.{length, get_or}
+use Rattle.std.specs.Prelude.{Result}
 use Rattle.paging.specs.Layout.{frame_words, get}
 use Rattle.paging.specs.Sound.{Alike}
 use Rattle.rules.specs.declared.Event.{Event}
@@ -14,7 +15,7 @@ use Rattle.tables.specs.declared.Sizes.{Sizes}
 use Rattle.tables.specs.State.{Machine, State, state_of, machine64}
 use Rattle.shadow.specs.declared.Answer.{Answer}
 use Rattle.shadow.specs.After.{after}
-use Rattle.shadow.specs.Answer.{Result, gives, refusal_of}
+use Rattle.shadow.specs.Answer.{Reply, replies, refusal_of}
 use Rattle.shadow.specs.Refusals.{call_refusal, setup_refusal}
 use Rattle.shadow.specs.Setup.{started, after_setup}
 use Rattle.shadow.proofs.Accepted.{accepted_event, accepted_words}
@@ -43,10 +44,10 @@ module _ {z : Sizes} {map cr3s words : List ℕ} {es : List Event} (p : Play z m
   -- ---- setup
 
   pub setup_taken : setup_refusal M map cr3s p.found ≡ 0
-  setup_taken = sym (setup_number M map cr3s p.found) ∙ ap (λ (x : Result). refusal_of x.answer) (sym p.begins.call) ∙ sym p.begins.first
+  setup_taken = sym (setup_number M map cr3s p.found) ∙ ap (λ (x : Reply). refusal_of x.answer) (sym p.begins.call) ∙ sym p.begins.first
 
   set_is : p.set ≡ started M cr3s p.found.words
-  set_is = ap (λ (x : Result). x.state) (p.begins.call ∙ setup_done M map cr3s p.found setup_taken)
+  set_is = ap (λ (x : Reply). x.state) (p.begins.call ∙ setup_done M map cr3s p.found setup_taken)
 
   start_is : p.states 0 ≡ D.begun fresh
   start_is = p.start ∙ ap (λ (s : State). state_of words s.shadow s.slots) set_is
@@ -59,17 +60,17 @@ module _ {z : Sizes} {map cr3s words : List ℕ} {es : List Event} (p : Play z m
   abbrev e : ℕ → Event
   e k = event_at es k
 
-  abbrev Gave : ℕ → Answer → Type 0
-  Gave k r = gives r (p.states (suc k)) ≡ after M map (p.states k) (e k)
+  abbrev Gave : ℕ → Result Answer ℕ → Type 0
+  Gave k r = replies r (p.states (suc k)) ≡ after M map (p.states k) (e k)
 
   answered : (k : ℕ) → k < length es → Answered event_numbers (Gave k) 0 (p.told k)
   answered k h = given (p.goes k h) refl
 
   next_is : (k : ℕ) → k < length es → p.states (suc k) ≡ (after M map (p.states k) (e k)).state
-  next_is k h = ap (λ (x : Result). x.state) (answered k h).call
+  next_is k h = ap (λ (x : Reply). x.state) (answered k h).call
 
   answer_is : (k : ℕ) (h : k < length es) → (answered k h).result ≡ (after M map (p.states k) (e k)).answer
-  answer_is k h = ap (λ (x : Result). x.answer) (answered k h).call
+  answer_is k h = ap (λ (x : Reply). x.answer) (answered k h).call
 
   taken : (k : ℕ) → k < length es → call_refusal M map (p.states k) (e k) ≡ 0
   taken k h = sym (event_number M map (p.states k) (e k)) ∙ ap refusal_of (sym (answer_is k h)) ∙ sym (answered k h).first
@@ -116,7 +117,7 @@ module _ {z : Sizes} {map cr3s words : List ℕ} {es : List Event} (p : Play z m
         let F = fresh in
         let fit = fits_setup size in
         let a = c.answered three in
-        a.first ∙ ap (λ (x : Result). refusal_of x.answer) a.call ∙ event_number M map last d
+        a.first ∙ ap (λ (x : Reply). refusal_of x.answer) a.call ∙ event_number M map last d
         ∙ own_number M map last (ready F laid64 fit) (ranges F laid64 fit) (fits F laid64 fit) (frames_fit_lem z map cr3s p.found setup_taken) h.right h.size d
         ∙ sym (same_tests M last words cr3s d)
 
@@ -144,7 +145,7 @@ module _ (z : Sizes) (map cr3s words : List ℕ) (found : State) (ok : setup_ref
   none_refused k h =
       event_number machine map (before F r k) (event_at es k) ∙ accepted F laid64 (setup_fits_lem z map cr3s found ok words long) r fit k h
 
-  gave : (k : ℕ) → gives (answer_at F r k) (state_at F r (suc k)) ≡ after machine map (state_at F r k) (event_at es k)
+  gave : (k : ℕ) → replies (answer_at F r k) (state_at F r (suc k)) ≡ after machine map (state_at F r k) (event_at es k)
   unfolding state_at
   gave k = ap (λ (s : State). after machine map s (event_at es k)) (none_lost machine (state_at F r k))
 
@@ -155,7 +156,7 @@ module _ (z : Sizes) (map cr3s words : List ℕ) (found : State) (ok : setup_ref
     set = (after_setup machine map cr3s found).state;
     begins = record { result = (after_setup machine map cr3s found).answer; call = refl; first = sym (setup_number machine map cr3s found ∙ ok) };
     states = state_at F r;
-    start = ap (λ (x : Result). state_of words x.state.shadow x.state.slots) (sym (setup_done machine map cr3s found ok));
+    start = ap (λ (x : Reply). state_of words x.state.shadow x.state.slots) (sym (setup_done machine map cr3s found ok));
     answer = λ k. 0 ∷ 0 ∷ 0 ∷ [];
     told = λ k. event_numbers (answer_at F r k);
     goes = λ k h. record {

@@ -8,6 +8,7 @@ use mathlib.Core.List.{List, [], ◌∷◌, ◌++◌}
 use Prim.Native.Nat.{ℕ, ◌*◌, ◌<◌, ◌≤◌}
 use lib.Dec.{T, eqb}
 use lib.ListN.{length, get_or, drop}
+use Rattle.std.specs.Prelude.{Err}
 use Rattle.paging.specs.Layout.{tables64, frame_words}
 use Rattle.paging.specs.Sound.{Alike}
 use Rattle.rules.specs.declared.Event.{Event}
@@ -18,7 +19,6 @@ use Rattle.tables.specs.declared.Sizes.{Sizes}
 use Rattle.tables.specs.State.{Shadow, State, machine64}
 use Rattle.tables.specs.Steps.{free_count, empty_share}
 use Rattle.lawful.specs.Rules.{lawful}
-use Rattle.shadow.specs.declared.Answer.TheVariants.{Refused}
 use Rattle.shadow.specs.After.{moved}
 use Rattle.shadow.specs.Moves.{decode}
 use Rattle.trees.proofs.Entries.{laid64}
@@ -153,7 +153,7 @@ module _ (text : List ℕ) {z : Puzzle} {at : ℕ} (e : puzzle_in text ≡ got z
       → after ≡ printed_for z ++ drop (length (printed_for z)) before
   run_prints before after answer told = program.run_prints text e before after
 
-  pub run_takes : (k : ℕ) → k < length (events_of z.events) → (n : ℕ) → answer_at (machine_for z) (run_for z) k ≡ Refused n → ⊥
+  pub run_takes : (k : ℕ) → k < length (events_of z.events) → (n : ℕ) → answer_at (machine_for z) (run_for z) k ≡ Err n → ⊥
   run_takes = every_event_taken (machine_for z) refl (program.run-sized text e) (run_for z) (trainer.fits text e)
 
   pub run_settles : (k : ℕ) → k < length (events_of z.events) → T (is_access (event_at (events_of z.events) k)) → SettlesInTwo (machine_for z) (run_for z) k

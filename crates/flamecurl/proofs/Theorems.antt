@@ -8,13 +8,13 @@ use lib.ListN.{length, get_or}
 use Rattle.rules.specs.declared.Event.{Event}
 use Rattle.tables.specs.declared.Sizes.{Sizes}
 use Rattle.tables.specs.State.{State, machine64}
-use Rattle.listing.specs.declared.Listed.{Listed}
+use Rattle.std.specs.Prelude.{Result}
+use Rattle.rules.specs.declared.Refusal.{Refusal}
 use Rattle.listing.specs.Call.{Asked, Lent, ListCall}
 use Rattle.listing.proofs.Theorems as listing
 use Rattle.shadow.specs.Answer as specs
 use Rattle.shadow.proofs.Theorems as shadow
-use Rattle.puzzle.specs.declared.ReadResult.{ReadResult}
-use Rattle.puzzle.specs.Buffers.{Buffers, After, read_call}
+use Rattle.puzzle.specs.Buffers.{ReadResult, Buffers, After, read_call}
 use Rattle.puzzle.specs.Buffers as puzzle
 use Rattle.trainer.specs.Answers.{AnswersOf}
 use Rattle.trainer.specs.Run.{RunOf}
@@ -42,7 +42,7 @@ module _ {A B : Type 0} {numbers : A → List ℕ} (Call : A → B → Type 0) (
 
 pub list_unique : (q : Asked) (before x y : Lent) (answer l k : List ℕ) (n m : ℕ)
     → ListExport q before x answer n l → ListExport q before y answer m k → (n ≡ m) × (x ≡ y) × (l ≡ k)
-list_unique q before x y answer l k n m = same_exports (λ (r : Listed) (x : Lent). ListCall q before r x) (listing.one_result q before)
+list_unique q before x y answer l k n m = same_exports (λ (r : Result ℕ Refusal) (x : Lent). ListCall q before r x) (listing.one_result q before)
 
 pub event_unique : (z : Sizes) (map : List ℕ) (e : Event) (before x y : State) (answer l k : List ℕ) (n m : ℕ)
     → EventExport z map e before x answer n l → EventExport z map e before y answer m k → (n ≡ m) × (x ≡ y) × (l ≡ k)

@@ -1,20 +1,17 @@
 -- The C interface: each call promises what the library's call promises, and puts its answer into a lent buffer as numbers.
-use Rattle.std.specs.Prelude.{◌≡◌, List, [], ◌∷◌, ℕ, length, get_or}
+use Rattle.std.specs.Prelude.{◌≡◌, List, [], ◌∷◌, ℕ, length, get_or, Result}
 use Rattle.rules.specs.declared.Event.{Event}
 use Rattle.rules.specs.declared.Question.{Question}
 use Rattle.tables.specs.declared.Sizes.{Sizes}
 use Rattle.tables.specs.State.{State, machine64}
-use Rattle.listing.specs.declared.Listed.{Listed}
+use Rattle.rules.specs.declared.Refusal.{Refusal}
+use Rattle.rules.specs.Refusal.{refusal_of}
 use Rattle.listing.specs.Call.{Asked, Lent, ListCall}
 use Rattle.shadow.specs.declared.Answer.{Answer}
 use Rattle.shadow.specs.After.{after}
-use Rattle.puzzle.specs.declared.ReadResult.{ReadResult}
-use Rattle.puzzle.specs.declared.ReadResult.TheVariants.{Accepted, Refused}
-use Rattle.puzzle.specs.Buffers.{Buffers, read_call}
-use Rattle.trainer.specs.declared.Written.{Written}
-use Rattle.trainer.specs.declared.Written.TheVariants.{Bytes, RefusedText, Refused as Unwritten}
-use Rattle.trainer.specs.Call.{Lines, Call}
-use Rattle.shadow.specs.Answer.{gives}
+use Rattle.puzzle.specs.Buffers.{ReadResult, Accepted, Refused, Buffers, read_call}
+use Rattle.trainer.specs.Call.{Told, Bytes, RefusedText, Refused as Unwritten, Lines, Call}
+use Rattle.shadow.specs.Answer.{replies}
 use Rattle.shadow.specs.Setup.{after_setup}
 use Rattle.listing.specs.Call as listing
 use Rattle.shadow.specs.Answer as shadow
@@ -35,11 +32,11 @@ question_from proc addr request = record { proc = proc; addr = addr; request = r
 -- ---- answers come out as numbers: "A refusal returns its number, zeros else"
 
 -- refusal, count
-abbrev pub list_numbers : Listed → List ℕ
-list_numbers r = listing.refusal_of r ∷ listing.count_of r ∷ []
+abbrev pub list_numbers : Result ℕ Refusal → List ℕ
+list_numbers r = refusal_of r ∷ listing.count_of r ∷ []
 
 -- "Answer: refusal, kind …, value"
-abbrev pub event_numbers : Answer → List ℕ
+abbrev pub event_numbers : Result Answer ℕ → List ℕ
 event_numbers r = shadow.refusal_of r ∷ shadow.kind_of r ∷ shadow.value_of r ∷ []
 
 -- refusal, line, then the counts of the five sections
@@ -48,7 +45,7 @@ read_numbers (Accepted g p w e q) = 0 ∷ 0 ∷ g ∷ p ∷ w ∷ e ∷ q ∷ []
 read_numbers (Refused n line) = n ∷ line ∷ 0 ∷ 0 ∷ 0 ∷ 0 ∷ 0 ∷ []
 
 -- refusal, bytes written, then a refused text's number and line
-abbrev pub written_numbers : Written → List ℕ
+abbrev pub written_numbers : Told → List ℕ
 written_numbers (Bytes n) = 0 ∷ n ∷ 0 ∷ 0 ∷ []
 written_numbers (RefusedText number line n) = 0 ∷ n ∷ number ∷ line ∷ []
 written_numbers (Unwritten n) = n ∷ 0 ∷ 0 ∷ 0 ∷ []
@@ -70,11 +67,11 @@ pub record Exported {A : Type 0} (size : ℕ) (numbers : A → List ℕ) (Gave :
 -- ---- THE PROMISES OF THE C INTERFACE
 
 abbrev pub ListExport : Asked → Lent → Lent → List ℕ → ℕ → List ℕ → Type 0
-ListExport q before after = Exported 2 list_numbers (λ (r : Listed). ListCall q before r after) (after ≡ before)
+ListExport q before after = Exported 2 list_numbers (λ (r : Result ℕ Refusal). ListCall q before r after) (after ≡ before)
 
 abbrev pub EventExport : Sizes → List ℕ → Event → State → State → List ℕ → ℕ → List ℕ → Type 0
 EventExport z map e before after =
-    Exported 3 event_numbers (λ (r : Answer). gives r after ≡ machine.after (machine64 z) map before e) (after ≡ before)
+    Exported 3 event_numbers (λ (r : Result Answer ℕ). replies r after ≡ machine.after (machine64 z) map before e) (after ≡ before)
 
 abbrev pub ReadExport : List ℕ → Buffers → Buffers → List ℕ → ℕ → List ℕ → Type 0
 ReadExport text before after =
@@ -82,10 +79,10 @@ ReadExport text before after =
 
 -- `answers` and `run`, by what they print
 abbrev pub PrintExport : Lines → List ℕ → List ℕ → List ℕ → List ℕ → ℕ → List ℕ → Type 0
-PrintExport Of text before after = Exported 4 written_numbers (λ (r : Written). Call Of text before r after) (after ≡ before)
+PrintExport Of text before after = Exported 4 written_numbers (λ (r : Told). Call Of text before r after) (after ≡ before)
 
 -- setup has no kind and no value to tell, so it has no answer buffer
 pub record SetupExport (z : Sizes) (map cr3s : List ℕ) (before : State) (number : ℕ) (after : State) : Type 0 where
-  pub result : Answer
-  pub call : gives result after ≡ after_setup (machine64 z) map cr3s before
+  pub result : Result Answer ℕ
+  pub call : replies result after ≡ after_setup (machine64 z) map cr3s before
   pub first : number ≡ shadow.refusal_of result

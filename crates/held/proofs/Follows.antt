@@ -5,15 +5,12 @@ use mathlib.Core.Logic.{◌⊎◌, inl, inr}
 use mathlib.Core.List.{List, [], ◌∷◌}
 use Prim.Native.Nat.{ℕ, zero, suc, ◌+◌, ◌-◌, ◌*◌, ◌/◌, ◌%◌, ◌≤◌, ◌<◌}
 use native.Mathlib.Omega.{arith}
-use types.Run.{OneOf}
-use denote.Enum.Declared.{tag_of}
 use lib.ListN.{get_or, set}
 use borrow.Author.Tests.{eq-eqb, ne_eqb}
 use Rattle.paging.specs.Walk.{Step}
 use Rattle.paging.specs.declared.Walk.{Walk}
 use Rattle.paging.specs.declared.Stop.TheVariants.{Absent, Beyond, Complete}
 use Rattle.paging.specs.Layout.{Layout, frame_words, index, rights_of}
-use Rattle.paging.specs.contracts.Step.{the_type}
 use Rattle.paging.proofs.Steps.{Goes, goes}
 use Rattle.paging.proofs.Meets.{meet_small}
 use Rattle.held.specs.Work.{cell, HasByte}
@@ -72,40 +69,16 @@ module _ (Y : Layout) (G page : ℕ) (words : List ℕ) where
   unfolding reread_at
   reread_elsewhere a l work n = simp (ne_eqb (Y.place (a / frame_words) (index Y page l)) a n)
 
-  pub reread_done : (a l : ℕ) (work : List ℕ) → l ≤ 0 → reread_word Y G page words a l work ≡ work
+  -- the levels from l down, once the first has been taken
+  pub reread-turn : (a l k : ℕ) (work : List ℕ) → l ≡ suc k → reread_word Y G page words a l work ≡ reread_word Y G page words a k (reread_at Y G page words a l work)
   unfolding reread_word
-  reread_done a zero work h = refl
-  reread_done a (suc l) work h = absurd (omega arith)
+  reread-turn a l k work e = rw e
 
-  pub reread-turn : (a l : ℕ) (work : List ℕ) → 0 < l
-      → reread_word Y G page words a l work ≡ reread_word Y G page words a (l - 1) (reread_at Y G page words a l work)
+  pub reread_done : (a : ℕ) (work : List ℕ) → reread_word Y G page words a 0 work ≡ work
   unfolding reread_word
-  reread-turn a zero work h = absurd (omega arith)
-  reread-turn a (suc l) work h = let e : suc l - 1 ≡ l = omega arith in rw e
+  reread_done a work = refl
 
--- one byte more
-pub clear_turn : (k n : ℕ) (work : List ℕ) → 0 < n → cleared k n work ≡ cleared (k + 1) (n - 1) (set work k 0)
-unfolding cleared
-clear_turn k zero work h = absurd (omega arith)
-clear_turn k (suc n) work h = let e : suc n - 1 ≡ n = omega arith in rw e
-
-pub clear_none : (k : ℕ) (work : List ℕ) → cleared k 0 work ≡ work
-unfolding cleared
-clear_none k work = refl
-
--- a step that is none of the first variant, On, leads nowhere
-pub stops : (f : Walk → List ℕ → List ℕ) (s : Step) (work : List ℕ) → OneOf (1 ∷ 2 ∷ 3 ∷ []) (tag_of the_type s) → onward f s work ≡ work
-stops f (Ok w) work t = absurd (none t)
-  where
-    none : ◌≡◌ {A = ℕ} 0 1 ⊎ (◌≡◌ {A = ℕ} 0 2 ⊎ ◌≡◌ {A = ℕ} 0 3) → ⊥
-    none (inl e) = omega arith
-    none (inr (inl e)) = omega arith
-    none (inr (inr e)) = omega arith
-stops f (Err Absent) work t = refl
-stops f (Err Beyond) work t = refl
-stops f (Err Complete) work t = refl
-
--- the same of a step that is no On, as the code's arm says it
+-- a walk that goes no further leads nowhere
 pub stops_unless_on : (f : Walk → List ℕ → List ℕ) (s : Step) (work : List ℕ) → ((w : Walk) → s ≡ Ok w → ⊥) → onward f s work ≡ work
 stops_unless_on f (Ok w) work t = absurd (t w refl)
 stops_unless_on f (Err Absent) work t = refl

@@ -1,8 +1,8 @@
 -- Where the state rules hold a call is refused for its own event only, with that event's number; so it is accepted where the
 -- event is within the ranges.
 use mathlib.Core.Path.{◌≡◌, refl, sym, ◌∙◌}
-use mathlib.Core.Bool.{true, not, ◌&&◌}
-use mathlib.Core.List.{List, [], ◌∷◌}
+use mathlib.Core.Bool.{true, ◌&&◌}
+use mathlib.Core.List.{List}
 use Prim.Native.Nat.{ℕ, ◌*◌}
 use native.Mathlib.Decide.{ℕ_discrete}
 use native.Mathlib.Omega.{arith}
@@ -11,7 +11,6 @@ use lib.ListN.{length}
 use borrow.Author.Tests.{eq-eqb, le-leb}
 use Rattle.paging.specs.Layout.{frame_words}
 use Rattle.rules.specs.declared.Event.{Event}
-use Rattle.rules.specs.Refusal.{test, refusal}
 use Rattle.rules.specs.History.{event_refusal}
 use Rattle.tables.specs.State.{Machine, State, table_count, record_size}
 use Rattle.lawful.specs.Rules.{lawful}
@@ -51,18 +50,17 @@ module _ (M : Machine) (map : List ℕ) (s : State) (ok : Able M) (ranged : Rang
         eq-eqb (length s.slots) (24 * M.processors) r.triples,
       )
 
-  early : 0 ≡ refusal (test 1 (not (ranges_fit M && lengths_fit M map s.shadow s.slots && true)) ∷ test 2 (not (frames_fit M map)) ∷ [])
-  unfolding refusal
-  early = simp (ranges M ranged, lengths, frames)
+  sizes : (ranges_fit M && lengths_fit M map s.shadow s.slots) ≡ true
+  sizes = simp (ranges M ranged, lengths)
 
-  whole : true ≡ eqb (length s.words) (frame_words * M.frames)
-  whole = sym (eq-eqb (length s.words) (frame_words * M.frames) words)
+  whole : eqb (length s.words) (frame_words * M.frames) ≡ true
+  whole = eq-eqb (length s.words) (frame_words * M.frames) words
 
   right : lawful M map s ≡ true
   right = (lawful_is M ok map fits.outside s r.law.trees.exact).1 r.law
 
   pub accepts : (e : Event) → event_refusal (as_setup M s) e ≡ 0 → call_refusal M map s e ≡ 0
-  accepts e fit = sym (call_accepted M map s e {w = true} whole early right (sym fit) (omega (arith, ranged.share)))
+  accepts e fit = sym (call_accepted M map s e sizes whole frames right (omega (arith, ok.upper, ranged.share)) ranged.share.0 (sym fit))
 
   -- THE NUMBER OF A CALL IS THAT OF ITS EVENT
   pub own_number : (e : Event) → call_refusal M map s e ≡ event_refusal (as_setup M s) e
@@ -70,4 +68,4 @@ module _ (M : Machine) (map : List ℕ) (s : State) (ok : Able M) (ranged : Rang
     where
       go : Dec (event_refusal (as_setup M s) e ≡ 0) → call_refusal M map s e ≡ event_refusal (as_setup M s) e
       go (yes z) = accepts e z ∙ sym z
-      go (no n) = sym (call_event M map s e {w = true} whole early right refl n)
+      go (no n) = sym (call_event M map s e sizes whole frames right refl n)

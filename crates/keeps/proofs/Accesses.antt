@@ -7,6 +7,7 @@ use mathlib.Core.Logic.{inr}
 use Prim.Native.Nat.{ℕ, ◌+◌, ◌≤◌, ◌<◌}
 use lib.Dec.{ltb}
 use borrow.Author.Tests.{ltb-true}
+use Rattle.std.specs.Prelude.{Ok}
 use Rattle.paging.specs.declared.Guest.{Guest}
 use Rattle.paging.specs.declared.Walk.{Walk}
 use Rattle.paging.specs.declared.Request.{Request}
@@ -31,7 +32,7 @@ use Rattle.keeps.proofs.Filled.{Fills, fills, fill_reshapes}
 use Rattle.paging.specs.declared.Stop.{Stop}
 use Rattle.slots.specs.Slots.{slot_count, place_in, slot_serves, serving_slot}
 use Rattle.guest.specs.GuestWalk.{Ended, whole, GuestWalk, walk_guest, dirtied}
-use Rattle.shadow.specs.Answer.{Result, gives}
+use Rattle.shadow.specs.Answer.{Reply, gives}
 use Rattle.shadow.specs.Fill.{fill}
 use Rattle.shadow.specs.Access.{after_access, after_miss, after_walk}
 
@@ -77,7 +78,7 @@ module _ (M : Machine) (map : List ℕ) (p a b : ℕ) (s : State) where
   written last = state_of (dirtied M.tables q page last walked.words) s.shadow s.slots
 
   -- THE WAYS OUT OF AN ACCESS
-  pub data Way (out : Result) : Type 0 where
+  pub data Way (out : Reply) : Type 0 where
     slot : (k : ℕ) → k < slot_count → slot_serves s.slots p page q k ≡ true
         → out ≡ gives (Address (host_address (host_of map (guest (place_in s.slots p k))) a)) s → Way out
     shadow : is_present end ≡ true → enough q (meet path.rights (rights_of M.tables end)) ≡ true
@@ -115,13 +116,13 @@ module _ (M : Machine) (map : List ℕ) (p a b : ℕ) (s : State) where
       go false e false f w g = miss
 
   -- where the page's path serves, an address is answered
-  pub served : is_present end ≡ true → enough q (meet path.rights (rights_of M.tables end)) ≡ true → (v : ℕ) × ((after_access M map p a b s).answer ≡ Address v)
+  pub served : is_present end ≡ true → enough q (meet path.rights (rights_of M.tables end)) ≡ true → (v : ℕ) × ((after_access M map p a b s).answer ≡ Ok (Address v))
   unfolding after_access
   served here good = go (ltb (serving_slot s.slots p page q) slot_count) here good
     where
       go : (u : Bool) → is_present end ≡ true → enough q (meet path.rights (rights_of M.tables end)) ≡ true
           → (v : ℕ) × ((cond u (gives (Address (host_address (host_of map (guest (place_in s.slots p (serving_slot s.slots p page q)))) a)) s)
-          (cond (is_present end && enough q (meet path.rights (rights_of M.tables end))) (gives (Address (host_address (host (frame_of M.tables end)) a)) s) (after_miss M map p page q s))).answer ≡ Address v)
+          (cond (is_present end && enough q (meet path.rights (rights_of M.tables end))) (gives (Address (host_address (host (frame_of M.tables end)) a)) s) (after_miss M map p page q s))).answer ≡ Ok (Address v))
       go true here good = (_, refl)
       go false here good = (host_address (host (frame_of M.tables end)) a, simp (here, good))
 
@@ -154,7 +155,7 @@ module _ (M : Machine) (map : List ℕ) (p a b : ℕ) (s : State) where
     fault_right : RightState M map (faulted M p page walked_over)
     fault_right = words_right M ok map fits walked.words r
 
-    way_right : {out : Result} → Way out → RightState M map out.state
+    way_right : {out : Reply} → Way out → RightState M map out.state
     way_right (slot k h v q) = rw q r
     way_right (shadow h v q) = rw q r
     way_right (fault base e q) = rw q fault_right
@@ -165,7 +166,7 @@ module _ (M : Machine) (map : List ℕ) (p a b : ℕ) (s : State) where
     access_right = way_right ways
 
     -- the words keep their number
-    way_words : {out : Result} → Way out → Same M.tables out.state.words s.words
+    way_words : {out : Reply} → Way out → Same M.tables out.state.words s.words
     way_words (slot k h v q) = rw q (same_refl M.tables s.words)
     way_words (shadow h v q) = rw q (same_refl M.tables s.words)
     way_words (fault base e q) = rw q (walk_same ok.sound)

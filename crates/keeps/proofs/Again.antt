@@ -7,6 +7,7 @@ use Prim.Native.Nat.{ℕ, zero, suc, ◌+◌, ◌-◌, ◌≤◌, ◌<◌}
 use native.Mathlib.Decide.{dec_lt}
 use native.Mathlib.Omega.{arith}
 use lib.ListN.{length, get_or}
+use Rattle.std.specs.Prelude.{Result, Ok}
 use Rattle.paging.specs.declared.Guest.{Guest}
 use Rattle.paging.specs.declared.Walk.{Walk}
 use Rattle.paging.specs.declared.Request.{Request}
@@ -23,7 +24,7 @@ use Rattle.guest.specs.GuestWalk.{whole, guest_entry, dirtied}
 use Rattle.tables.specs.Steps.{leaf_of}
 use Rattle.shadow.specs.declared.Answer.{Answer}
 use Rattle.shadow.specs.declared.Answer.TheVariants.{Again}
-use Rattle.shadow.specs.Answer.{Result}
+use Rattle.shadow.specs.Answer.{Reply}
 use Rattle.shadow.specs.Fill.{fill}
 use Rattle.shadow.specs.Access.{after_access}
 use Rattle.trees.proofs.Trees.{Able}
@@ -35,8 +36,8 @@ use Rattle.keeps.proofs.Grants.{grants_less, grants_enough}
 use Rattle.keeps.proofs.Accesses.{walked, written, filling, Way, slot, shadow, fault, lacks, again, ways}
 
 -- a result that does not answer y
-pub unlike : {A : Type 0} {out r : Result} {y : Answer} → out ≡ r → out.answer ≡ y → (r.answer ≡ y → ⊥) → A
-unlike o g ne = absurd (ne (sym (ap (λ (x : Result). x.answer) o) ∙ g))
+pub unlike : {A : Type 0} {out r : Reply} {y : Result Answer ℕ} → out ≡ r → out.answer ≡ y → (r.answer ≡ y → ⊥) → A
+unlike o g ne = absurd (ne (sym (ap (λ (x : Reply). x.answer) o) ∙ g))
 
 -- a path's rights are rights
 pub path_small : (M : Machine) (pool : List ℕ) (page p n : ℕ) → (descend M pool page n (top M p)).rights < 8
@@ -141,10 +142,10 @@ module _ (M : Machine) (map : List ℕ) (p a b : ℕ) (s : State) (ok : Able M) 
 
 -- AFTER "AGAIN" THE PAGE'S PATH SERVES
 module _ (M : Machine) (map : List ℕ) (p a b : ℕ) (s : State) (ok : Able M) (spare : M.tables.levels ≤ M.share) (fits : Mapped M map) (hp : p < M.processors) (r : RightState M map s) (hb : b < 6) where
-  abbrev Left : Result → Type 0
-  Left out = out.answer ≡ Again → Serves M out.state p (page_of M.tables a) (request_of M.tables b)
+  abbrev Left : Reply → Type 0
+  Left out = out.answer ≡ Ok Again → Serves M out.state p (page_of M.tables a) (request_of M.tables b)
 
-  way_serves : {out : Result} → Way M map p a b s out → Left out
+  way_serves : {out : Reply} → Way M map p a b s out → Left out
   way_serves (slot k h v o) = λ g. unlike o g (λ e. let n : ◌≡◌ {A = ℕ} 0 1 = cc in omega arith)
   way_serves (shadow h v o) = λ g. unlike o g (λ e. let n : ◌≡◌ {A = ℕ} 0 1 = cc in omega arith)
   way_serves (fault base e o) = λ g. unlike o g (λ e. let n : ◌≡◌ {A = ℕ} 0 1 = cc in omega arith)
@@ -154,5 +155,5 @@ module _ (M : Machine) (map : List ℕ) (p a b : ℕ) (s : State) (ok : Able M) 
     good = end-enough M map p a b s ok spare fits hp r last w e (needs_small M.tables b hb) v;
   })
 
-  pub access_serves : (after_access M map p a b s).answer ≡ Again → Serves M (after_access M map p a b s).state p (page_of M.tables a) (request_of M.tables b)
+  pub access_serves : (after_access M map p a b s).answer ≡ Ok Again → Serves M (after_access M map p a b s).state p (page_of M.tables a) (request_of M.tables b)
   access_serves = way_serves (ways M map p a b s)

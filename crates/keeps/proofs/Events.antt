@@ -22,7 +22,7 @@ use Rattle.paging.specs.Sound.{Laid}
 use Rattle.trees.proofs.Trees.{Able, able}
 use Rattle.trees.proofs.Rules.{lawful_is}
 use Rattle.keeps.proofs.RightStates.{Mapped, RightState}
-use Rattle.shadow.specs.Answer.{Result}
+use Rattle.shadow.specs.Answer.{Reply}
 use Rattle.shadow.specs.Refusals.{pool_fits, in_pool, frames_fit, call_refusal}
 use Rattle.shadow.specs.Moves.{decode, after_store, after_invlpg, after_cr3, after_begin, after_extend, after_drop}
 use Rattle.shadow.specs.Access.{after_access}
@@ -49,7 +49,7 @@ mapped M map guests fits = record {
 
 module _ (M : Machine) (map : List ℕ) (s : State) (e : Event) where
   -- WHICH OF THE SEVEN KINDS, within its range
-  pub data Kind (out : Result) : Type 0 where
+  pub data Kind (out : Reply) : Type 0 where
     store : e.kind ≡ 1 → e.a < length s.words → out ≡ after_store e.a e.b s → Kind out
     invlpg : e.kind ≡ 2 → out ≡ after_invlpg M e.proc e.a s → Kind out
     cr3 : e.kind ≡ 3 → e.a < M.frames → out ≡ after_cr3 M e.proc e.a s → Kind out

@@ -1,5 +1,5 @@
 -- Walk steps keep the state rules: begin, extend, and a slot that is lost.
-use Rattle.std.specs.Prelude.{Option, Some, None}
+use Rattle.std.specs.Prelude.{Option, Some, None, Ok}
 use mathlib.Core.Path.{◌≡◌, refl, sym, ap, ap₂, subst, ◌∙◌}
 use mathlib.Core.Bool.{Bool, true, false, cond, ◌&&◌}
 use mathlib.Core.List.{List}
@@ -12,6 +12,7 @@ use lib.Dec.{eqb, ltb}
 use lib.Pow.{pow_pos}
 use lib.ListN.{length}
 use borrow.Author.Tests.{ltb-true, eq-eqb, eqb-true}
+use Rattle.paging.specs.declared.Guest.{Guest}
 use Rattle.paging.specs.Frame.{guest, host, origin_of}
 use Rattle.paging.specs.Layout.{Layout, index, page_of, frame_of, rights_of, is_present}
 use Rattle.paging.specs.Walk.{meet}
@@ -21,9 +22,7 @@ use Rattle.tables.specs.State.{Machine, State, state_of, table_count, root_of, e
 use Rattle.slots.specs.Slots.{slot_count, mark_of, page_in, place_in, rights_in, with_slot, emptied}
 use Rattle.paging.proofs.Counts.{by_cases}
 use Rattle.shadow.specs.declared.Answer.TheVariants.{Done, NoStep}
-use Rattle.shadow.specs.declared.Place.{Place}
-use Rattle.shadow.specs.declared.Place.TheVariants.{At, Off}
-use Rattle.shadow.specs.Answer.{Result, gives}
+use Rattle.shadow.specs.Answer.{Reply, gives}
 use Rattle.shadow.specs.Moves.{after_begin, after_extend, after_drop, by_place, place_of, place_below}
 use Rattle.shadow.proofs.Extends.{origin_small}
 use Rattle.lawful.specs.Rules.{slot_right}
@@ -122,20 +121,20 @@ module _ (M : Machine) (ok : Able M) (map : List ℕ) (fits : Mapped M map) (p :
     paged = right-page M s.shadow.pool s.slots p k (r.law.slots p hp k hk)
 
     -- from level 1 it moves to a guest frame, from above to a table
-    pub place_complete : (l x : ℕ) → l ≡ 1 → place_below M map l next ≡ At x → origin_of map (host (frame_of M.tables next)) ≡ Some (guest x)
+    pub place_complete : (l x : ℕ) → l ≡ 1 → place_below M map l next ≡ Some x → origin_of map (host (frame_of M.tables next)) ≡ Some (guest x)
     unfolding place_below
     place_complete l x one q = go (origin_of map (host (frame_of M.tables next))) (simp (eq-eqb l 1 one) at q)
       where
-        go : (o : Option Guest) → place_of o ≡ At x → o ≡ Some (guest x)
+        go : (o : Option Guest) → place_of o ≡ Some x → o ≡ Some (guest x)
         go (Some g) e = let z : g.0 ≡ x = cc in ap (λ (n : ℕ). Some (guest n)) z
         go None e = let z : ◌≡◌ {A = ℕ} 0 1 = cc in absurd (omega arith)
 
-    place_partial : (l x : ℕ) → (l ≡ 1 → ⊥) → place_below M map l next ≡ At x → (named M next ≡ x) × (x < table_count M)
+    place_partial : (l x : ℕ) → (l ≡ 1 → ⊥) → place_below M map l next ≡ Some x → (named M next ≡ x) × (x < table_count M)
     unfolding place_below
     place_partial l x ne q = go (eqb l 1) refl (ltb (named M next) (table_count M)) refl q
       where
         go : (a : Bool) → eqb l 1 ≡ a → (b : Bool) → ltb (named M next) (table_count M) ≡ b
-            → cond a (place_of (origin_of map (host (frame_of M.tables next)))) (cond b (At (named M next)) Off) ≡ At x → (named M next ≡ x) × (x < table_count M)
+            → cond a (place_of (origin_of map (host (frame_of M.tables next)))) (cond b (Some (named M next)) None) ≡ Some x → (named M next ≡ x) × (x < table_count M)
         go true ea b eb e = absurd (ne (eqb-true l 1 ea))
         go false ea true eb e = let z : named M next ≡ x = cc in (z, rw z at (ltb-true (named M next) (table_count M) eb))
         go false ea false eb e = let z : ◌≡◌ {A = ℕ} 0 1 = cc in absurd (omega arith)
@@ -147,7 +146,7 @@ module _ (M : Machine) (ok : Able M) (map : List ℕ) (fits : Mapped M map) (p :
       pub table : path.table < table_count M
       pub present : is_present next ≡ true
       pub place : ℕ
-      pub at : place_below M map (mark - 1) next ≡ At place
+      pub at : place_below M map (mark - 1) next ≡ Some place
       pub is : s' ≡ state_of s.words s.shadow (with_slot p k (mark - 1) page place (meet path.rights (rights_of M.tables next)) s.slots)
 
     -- AN EXTENSION CHANGES NOTHING, OR MOVES THE SLOT
@@ -161,13 +160,13 @@ module _ (M : Machine) (ok : Able M) (map : List ℕ) (fits : Mapped M map) (p :
         rights : ℕ
         rights = meet (rights_in s.slots p k) (rights_of M.tables e)
 
-        on : ℕ → Result
+        on : ℕ → Reply
         on place = gives Done (state_of s.words s.shadow (with_slot p k (mark - 1) page place rights s.slots))
 
-        second : 1 < mark → is_present e ≡ true → (x : Place) → place_below M map (mark - 1) e ≡ x
+        second : 1 < mark → is_present e ≡ true → (x : Option ℕ) → place_below M map (mark - 1) e ≡ x
             → ((by_place x on (gives NoStep s)).state ≡ s) ⊎ Moves (by_place x on (gives NoStep s)).state
-        second lo there Off q = inl refl
-        second lo there (At x) q =
+        second lo there None q = inl refl
+        second lo there (Some x) q =
             let st = right_partial M s.shadow.pool s.slots p k (r.law.slots p hp k hk) lo in
             let level : path.level ≡ mark - 1 = path-level M s.shadow.pool page (M.tables.levels - (mark - 1)) (top M p) ∙ omega (arith, st.level) in
             let same : e ≡ next = ap₂ (λ (t l : ℕ). entry_of M s.shadow.pool t (index M.tables page l)) st.place (sym level) in
@@ -216,7 +215,7 @@ module _ (M : Machine) (ok : Able M) (map : List ℕ) (fits : Mapped M map) (p :
     extend_words = by_cases extends (λ q. ap (λ (x : State). length x.words) q) (λ m. ap (λ (x : State). length x.words) m.is)
 
 -- an extension is done, or takes no step
-pub extend_answer : (M : Machine) (map : List ℕ) (p k : ℕ) (s : State) → ((after_extend M map p k s).answer ≡ Done) ⊎ ((after_extend M map p k s).answer ≡ NoStep)
+pub extend_answer : (M : Machine) (map : List ℕ) (p k : ℕ) (s : State) → ((after_extend M map p k s).answer ≡ Ok Done) ⊎ ((after_extend M map p k s).answer ≡ Ok NoStep)
 unfolding after_extend
 extend_answer M map p k s = go (ltb 1 mark && is_present e) (place_below M map (mark - 1) e)
   where
@@ -226,10 +225,10 @@ extend_answer M map p k s = go (ltb 1 mark && is_present e) (place_below M map (
     e : ℕ
     e = entry_of M s.shadow.pool (place_in s.slots p k) (index M.tables (page_in s.slots p k) (mark - 1))
 
-    on : ℕ → Result
+    on : ℕ → Reply
     on place = gives Done (state_of s.words s.shadow (with_slot p k (mark - 1) (page_in s.slots p k) place (meet (rights_in s.slots p k) (rights_of M.tables e)) s.slots))
 
-    go : (b : Bool) (x : Place) → ((cond b (by_place x on (gives NoStep s)) (gives NoStep s)).answer ≡ Done) ⊎ ((cond b (by_place x on (gives NoStep s)) (gives NoStep s)).answer ≡ NoStep)
-    go true (At x) = inl refl
-    go true Off = inr refl
+    go : (b : Bool) (x : Option ℕ) → ((cond b (by_place x on (gives NoStep s)) (gives NoStep s)).answer ≡ Ok Done) ⊎ ((cond b (by_place x on (gives NoStep s)) (gives NoStep s)).answer ≡ Ok NoStep)
+    go true (Some x) = inl refl
+    go true None = inr refl
     go false x = inr refl

@@ -5,13 +5,14 @@ use mathlib.Core.Bool.{true}
 use mathlib.Core.List.{List, []}
 use Prim.Native.Nat.{ℕ, ◌-◌, ◌<◌}
 use native.Mathlib.Omega.{arith}
+use Rattle.std.specs.Prelude.{Ok, Err}
 use Rattle.paging.specs.Layout.{index, is_present}
 use Rattle.rules.specs.declared.Event.{Event}
 use Rattle.tables.specs.State.{Machine, State, entry_of}
 use Rattle.slots.specs.Slots.{mark_of, page_in, place_in}
 use Rattle.lawful.specs.Rules.{lawful}
 use Rattle.rules.specs.History.{event_refusal}
-use Rattle.shadow.specs.declared.Answer.TheVariants.{Done, Address, Again, Refused}
+use Rattle.shadow.specs.declared.Answer.TheVariants.{Done, Address, Again}
 use Rattle.shadow.specs.After.{after}
 use Rattle.shadow.proofs.Accepted.{accepted_ranged, accepted_own, accepted_frames, accepted_event}
 use Rattle.paging.specs.Sound.{Laid}
@@ -26,7 +27,7 @@ use Rattle.keeps.proofs.Extends.{moves}
 use Rattle.keeps.proofs.EventsKeep.{right-after, words-after, again_serves, served_address}
 use Rattle.keeps.proofs.Events.{Kind, store, invlpg, cr3, access, begin, extend, drop, accepted_mapped, accepted_able, accepted_right, kinds}
 use Rattle.paging.proofs.Counts.{by_cases}
-use Rattle.shadow.specs.Answer.{Result}
+use Rattle.shadow.specs.Answer.{Reply}
 use Rattle.shadow.specs.Refusals.{as_setup, call_refusal}
 use Rattle.shadow.specs.Moves.{after_invlpg, after_cr3, after_begin, after_drop}
 
@@ -62,11 +63,11 @@ module _ (M : Machine) (map : List ℕ) (s : State) (e : Event) (laid : Laid M.t
 
   -- A PARTIAL SLOT WHOSE SHADOW ENTRY IS PRESENT MOVES ONE LEVEL: from no state that the call takes does such an entry lead nowhere
   pub extend_moves : e.kind ≡ 6 → 1 < mark → is_present slot_entry ≡ true
-      → ((after M map s e).answer ≡ Done) × (mark_of s'.slots e.proc e.a ≡ mark - 1) × (page_in s'.slots e.proc e.a ≡ page_in s.slots e.proc e.a)
+      → ((after M map s e).answer ≡ Ok Done) × (mark_of s'.slots e.proc e.a ≡ mark - 1) × (page_in s'.slots e.proc e.a ≡ page_in s.slots e.proc e.a)
   extend_moves six partial present = go (kinds M map s e ok)
     where
-      go : {out : Result} → Kind M map s e out
-          → (out.answer ≡ Done) × (mark_of out.state.slots e.proc e.a ≡ mark - 1) × (page_in out.state.slots e.proc e.a ≡ page_in s.slots e.proc e.a)
+      go : {out : Reply} → Kind M map s e out
+          → (out.answer ≡ Ok Done) × (mark_of out.state.slots e.proc e.a ≡ mark - 1) × (page_in out.state.slots e.proc e.a ≡ page_in s.slots e.proc e.a)
       go (extend q h o) = rw o (moves M able map fits e.proc (accepted_own M map s e ok) s (accepted_right M map s e ok laid) e.a h partial present)
       go (store q h o) = absurd (omega arith)
       go (invlpg q o) = absurd (omega arith)
@@ -76,31 +77,31 @@ module _ (M : Machine) (map : List ℕ) (s : State) (e : Event) (laid : Laid M.t
       go (drop q h o) = absurd (omega arith)
 
 -- THE PUT RIGHT AFTER AN "AGAIN" ANSWERS AN ADDRESS
-pub again_address : (M : Machine) (map : List ℕ) (s : State) (e : Event) → Laid M.tables → call_refusal M map s e ≡ 0 → (after M map s e).answer ≡ Again
-    → (v : ℕ) × ((after M map (after M map s e).state e).answer ≡ Address v)
+pub again_address : (M : Machine) (map : List ℕ) (s : State) (e : Event) → Laid M.tables → call_refusal M map s e ≡ 0 → (after M map s e).answer ≡ Ok Again
+    → (v : ℕ) × ((after M map (after M map s e).state e).answer ≡ Ok (Address v))
 again_address M map s e laid ok g =
     let sv = again_serves M map s e laid ok g in
     served_address M map (after M map s e).state e (next_accepted M map s e laid ok e (accepted_event M map s e ok)) sv.0 sv.1
 
 -- AN ACCEPTED CALL ANSWERS NO REFUSAL
-pub never_refused : (M : Machine) (map : List ℕ) (s : State) (e : Event) → call_refusal M map s e ≡ 0 → (n : ℕ) → (after M map s e).answer ≡ Refused n → ⊥
+pub never_refused : (M : Machine) (map : List ℕ) (s : State) (e : Event) → call_refusal M map s e ≡ 0 → (n : ℕ) → (after M map s e).answer ≡ Err n → ⊥
 never_refused M map s e ok n refused = go (kinds M map s e ok) refused
   where
-    done : Done ≡ Refused n → ⊥
+    done : Ok Done ≡ Err n → ⊥
     done e = let m : ◌≡◌ {A = ℕ} 0 1 = cc in omega arith
 
-    way : {out : Result} → Way M map e.proc e.a e.b s out → out.answer ≡ Refused n → ⊥
+    way : {out : Reply} → Way M map e.proc e.a e.b s out → out.answer ≡ Err n → ⊥
     way (slot k h x o) g = unlike o g (λ e. let m : ◌≡◌ {A = ℕ} 0 1 = cc in omega arith)
     way (shadow h x o) g = unlike o g (λ e. let m : ◌≡◌ {A = ℕ} 0 1 = cc in omega arith)
     way (fault base x o) g = unlike o g (λ e. let m : ◌≡◌ {A = ℕ} 0 1 = cc in omega arith)
     way (lacks last w x y o) g = unlike o g (λ e. let m : ◌≡◌ {A = ℕ} 0 1 = cc in omega arith)
     way (again last w x y o) g = unlike o g (λ e. let m : ◌≡◌ {A = ℕ} 0 1 = cc in omega arith)
 
-    go : {out : Result} → Kind M map s e out → out.answer ≡ Refused n → ⊥
+    go : {out : Reply} → Kind M map s e out → out.answer ≡ Err n → ⊥
     go (store x h o) g = unlike o g done
     go (invlpg x o) g = unlike o g (λ e. done (unfold after_invlpg in e))
     go (cr3 x h o) g = unlike o g (λ e. done (unfold after_cr3 in e))
-    go (access x h o) g = way (ways M map e.proc e.a e.b s) (sym (ap (λ (y : Result). y.answer) o) ∙ g)
+    go (access x h o) g = way (ways M map e.proc e.a e.b s) (sym (ap (λ (y : Reply). y.answer) o) ∙ g)
     go (begin x h o) g = unlike o g (λ e. done (unfold after_begin in e))
     go (extend x h o) g =
         by_cases (extend_answer M map e.proc e.a s)

@@ -17,15 +17,19 @@ use Rattle.paging.proofs.Layouts.{present_alike, frame_alike, rights_alike}
 use Rattle.paging.proofs.Indices.{index_small}
 use Rattle.paging.proofs.Steps.{goes, completed}
 use Rattle.tables.specs.State.{Machine}
+use Rattle.guest.specs.declared.Walked.{Walked}
 use Rattle.guest.specs.GuestWalk.{whole, GuestWalk, by_step, walk_from, guest_entry}
 use Rattle.keeps.proofs.Alikes.{Same, same_trans, same_with_bit}
 use Rattle.trees.proofs.Settles.{Leads}
 
-whole_walk : {last last' : Guest} {w w' : Walk} → whole last w ≡ whole last' w' → w ≡ w'
-whole_walk e = cc
+abbrev whole_of : Guest → Walk → Walked
+whole_of last w = record { last = last; walk = w }
+
+pub whole_walk : {last last' : Guest} {w w' : Walk} → whole last w ≡ whole last' w' → w ≡ w'
+whole_walk {last} {last'} {w} {w'} e = let q : whole_of last w ≡ whole_of last' w' = cc in ap (λ (x : Walked). x.walk) q
 
 whole_last : {last last' : Guest} {w w' : Walk} → whole last w ≡ whole last' w' → last ≡ last'
-whole_last e = cc
+whole_last {last} {last'} {w} {w'} e = let q : whole_of last w ≡ whole_of last' w' = cc in ap (λ (x : Walked). x.last) q
 
 module _ (M : Machine) (sound : Sound M.tables) (page : ℕ) (words : List ℕ) where
   -- what a walk leaves that has n entries to read and came from frame from: words that agree, and, if it completes, a path

@@ -2,33 +2,35 @@
 // A call's line is the refusal's number, the count, and the pairs of the outcome buffer.
 #![tactic(auto)]
 
+mod call;
 mod large;
-mod print;
 mod sides;
 
-use buffers::{draw, put_pairs};
-use sides::ask;
+use buffers::{draw, print, print_marks, put_pairs};
+use call::{Call, Lent, READ, print_kept};
 use std::io;
 
 const MAP: [u64; 13] = [
     100, 101, 102, 103, 104, 105, 106, 107, 108, 109, 110, 111, 112,
 ];
 
-const SIX: [u64; 6] = [100, 101, 102, 103, 104, 105];
-
-const CR3S: [u64; 1] = [0];
-
 // "Start as above": words and values.
 const START: [u64; 8] = [0, 4103, 512, 8199, 1024, 12295, 1536, 16391];
 
 // "stores of frames 5 to 12 into word 1536"
-const STORES: [u64; 32] = [
-    0, 1, 1536, 20487, 0, 1, 1536, 24583, 0, 1, 1536, 28679, 0, 1, 1536, 32775, 0, 1, 1536, 36871,
-    0, 1, 1536, 40967, 0, 1, 1536, 45063, 0, 1, 1536, 49159,
+const STORES: [[u64; 4]; 8] = [
+    [0, 1, 1536, 20487],
+    [0, 1, 1536, 24583],
+    [0, 1, 1536, 28679],
+    [0, 1, 1536, 32775],
+    [0, 1, 1536, 36871],
+    [0, 1, 1536, 40967],
+    [0, 1, 1536, 45063],
+    [0, 1, 1536, 49159],
 ];
 
 // Two stores, and the words that they leave.
-const TWO_STORES: [u64; 8] = [0, 1, 1536, 20487, 0, 1, 3071, 77];
+const TWO_STORES: [[u64; 4]; 2] = [[0, 1, 1536, 20487], [0, 1, 3071, 77]];
 
 const STORED: [u64; 4] = [1536, 20487, 3071, 77];
 
@@ -37,68 +39,62 @@ fn show_thirteen(rt: &impl Print) -> io::Result<()> {
     let mut work = [0u8; 520];
     let mut outcomes = [0u64; 32];
     put_pairs(&mut words, &START);
-    buffers::print(rt, b"thirteen frames:")?;
-    print::listed(
-        rt,
-        &MAP,
-        &mut words,
-        &CR3S,
-        &STORES,
-        &mut work,
-        &mut outcomes,
-        ask(0, 8, 0),
-    )
+    print(rt, b"thirteen frames:")?;
+    let call = Call {
+        map: &MAP,
+        cr3s: &[0],
+        events: &STORES,
+        question: READ,
+    };
+    let mut lent = Lent {
+        words: &mut words,
+        work: &mut work,
+        outcomes: &mut outcomes,
+    };
+    call.show(rt, &mut lent)
 }
 
-fn show_words(rt: &impl Print, words: &[u64]) -> io::Result<()> {
+fn show_words(rt: &impl Print, words: &[u64; 3072]) -> io::Result<()> {
     let mut wanted = [0u64; 3072];
     draw::fill(&mut wanted, 1);
     put_pairs(&mut wanted, &START);
     put_pairs(&mut wanted, &STORED);
-    let same = buffers::begins(&wanted, words);
-    buffers::print(rt, b"words are the start with all stores done:")?;
-    buffers::print_either(rt, same, b" yes\n", b" no\n")
+    let answer = if *words == wanted { "yes" } else { "no" };
+    println!(rt; "words are the start with all stores done: {answer}")
 }
 
 // What an accepted call leaves in longer buffers that were full of other numbers.
-fn show_left(rt: &impl Print, words: &[u64], work: &[u8], outcomes: &[u64]) -> io::Result<()> {
-    buffers::print(rt, b"outcomes after the pairs:")?;
-    print::kept(rt, draw::holds(outcomes, 4, 3))?;
-    buffers::print(rt, b"work bytes from 240 on:")?;
-    print::kept(rt, draw::holds_bytes(work, 240, 2))?;
-    buffers::print(rt, b"work bytes that are 1 below 240:")?;
-    buffers::print_marks(rt, work, 240)?;
-    buffers::print(rt, b"\n")?;
-    show_words(rt, words)
-}
-
-fn show_filled(
-    rt: &impl Print,
-    words: &mut [u64],
-    work: &mut [u8],
-    outcomes: &mut [u64],
-) -> io::Result<()> {
-    buffers::print(rt, b"accepted:")?;
-    print::listed(
-        rt,
-        &SIX,
-        words,
-        &CR3S,
-        &TWO_STORES,
-        work,
-        outcomes,
-        ask(0, 8, 0),
-    )?;
-    show_left(rt, words, work, outcomes)
+fn show_left(rt: &impl Print, work: &[u8; 300], outcomes: &[u64; 24]) -> io::Result<()> {
+    print(rt, b"outcomes after the pairs:")?;
+    print_kept(rt, draw::holds(outcomes, 4, 3))?;
+    print(rt, b"work bytes from 240 on:")?;
+    print_kept(rt, draw::holds(work, 240, 2))?;
+    print(rt, b"work bytes that are 1 below 240:")?;
+    print_marks(rt, &work[..240])?;
+    print(rt, b"\n")
 }
 
 fn show_accepted(rt: &impl Print) -> io::Result<()> {
     let mut words = [0u64; 3072];
     let mut work = [0u8; 300];
     let mut outcomes = [0u64; 24];
-    draw::fill_all(&mut words, &mut work, &mut outcomes);
-    put_pairs(&mut words, &START);
-    show_filled(rt, &mut words, &mut work, &mut outcomes)
+    let call = Call {
+        map: &[100, 101, 102, 103, 104, 105],
+        cr3s: &[0],
+        events: &TWO_STORES,
+        question: READ,
+    };
+    let mut lent = Lent {
+        words: &mut words,
+        work: &mut work,
+        outcomes: &mut outcomes,
+    };
+    lent.fill();
+    put_pairs(lent.words, &START);
+    print(rt, b"accepted:")?;
+    call.show(rt, &mut lent)?;
+    show_left(rt, &work, &outcomes)?;
+    show_words(rt, &words)
 }
 
 fn main(rt: HostRuntime) -> io::Result<()> {

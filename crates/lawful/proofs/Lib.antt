@@ -1,5 +1,5 @@
 pub mod Hints
-pub mod Records
+pub mod Alls
+pub mod Strays
 pub mod Tallies
 pub mod Wholes
-pub mod Slots

@@ -1,6 +1,7 @@
 -- "State rules", as tests. `lawful` is all of them: first what is asked of each table, then the roots, then each slot.
 use Rattle.std.specs.Prelude.{Bool, true, false, cond, not, ◌&&◌, ◌||◌, List, ℕ, zero, suc, ◌+◌, ◌-◌, ◌*◌, ◌^◌, eqb, ltb, leb, Option, Some, None}
 use Rattle.std.specs.Bool.{beq}
+use Rattle.paging.specs.declared.Guest.{Guest}
 use Rattle.paging.specs.Frame.{host, origin_of}
 use Rattle.paging.specs.Layout.{Layout, bit, frame_of, rights_of, compose}
 use Rattle.paging.specs.Numbers.{all, sum, count}

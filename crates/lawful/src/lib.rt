@@ -10,43 +10,36 @@ ghost use Rattle.lawful.specs.TallyCode.{Tallied};
 ghost use Rattle.slots.specs.Slots.{slot_count, slots_size};
 ghost use Rattle.tables.specs.SizesCode.{Sized};
 
-use paging::{Host, Origin};
+use paging::Host;
+use slots::Slot;
 use tables::Sizes;
+
+// What the rules are asked of: a state, with a hint at each frame's note. A call passes all of it as one pointer.
+#[derive(Clone, Copy)]
+struct Known<'a> {
+    map: &'a [u64],
+    hints: &'a [u8; 4096],
+    pool: &'a [u64],
+    records: &'a [u64],
+    slots: &'a [u64],
+    z: Sizes,
+    ghost sized: { Sized z },
+    ghost room: { slots_size * z.processors ≤ length slots.now },
+}
 
 // ---- entries and records
 
 // At a frame's note stands its place in the map (a map of 256 frames at most: a byte), or that of another frame with this note.
-fn give_hints(map: &[u64], hints: &mut [u8])
-    requires { length hints.old ≡ 4096 }
-    ensures { length hints.new ≡ 4096 }
-{
-    let mut i = 0;
-    while i < map.len() {
-        let k = paging::noted_at(map[i]);
-        hints[k] = (i % 256) as u8;
-        i += 1;
+fn hints_of(map: &[u64]) -> [u8; 4096] {
+    let mut hints = [0u8; 4096];
+    for (i, f) in map.iter().enumerate() {
+        hints[paging::noted_at(*f)] = (i % 256) as u8;
     }
-}
-
-// The hint saves most searches; whatever the hints are, the answer is the same.
-fn is_mapped(map: &[u64], hints: &[u8], f: u64) -> bool
-    requires { length hints.now ≡ 4096 }
-    ensures { result ≡ is_mapped map.now f }
-{
-    let k = paging::noted_at(f);
-    let hint = hints[k] as usize;
-    if hint < map.len() {
-        if map[hint] == f {
-            return true;
-        }
-    }
-    match paging::origin_of(map, Host(f)) {
-        Origin::Of(_) => true,
-        Origin::Nowhere => false,
-    }
+    hints
 }
 
 // Whether an entry is made of its own rights and frame, of the D given, and of nothing else.
+#[tactic(auto, using(paging::proofs::Meets::rights_small, tables::proofs::Names::frame_small), unfolding(crate::specs::Rules::is_made_with))]
 fn is_made_with(d: u64, e: u64) -> bool
     requires { d < 2 }
     ensures { result ≡ is_made_with tables64 d e }
@@ -54,334 +47,234 @@ fn is_made_with(d: u64, e: u64) -> bool
     e == paging::composed(paging::rights_of(e), d, paging::frame_of(e))
 }
 
-fn is_leaf(map: &[u64], hints: &[u8], e: u64) -> bool
-    requires { length hints.now ≡ 4096 }
-    ensures { result ≡ is_leaf tables64 map.now e }
-{
-    if !is_made_with(paging::rights_of(e) % 2, e) {
-        return false;
+impl<'a> Known<'a> {
+    // The hint saves most searches; whatever the hints are, the answer is the same.
+    fn is_mapped(&self, f: u64) -> bool
+        ensures { result ≡ is_mapped self.now.map.now f }
+    {
+        let hint = self.hints[paging::noted_at(f)] as usize;
+        self.map.get(hint) == Some(&f) || paging::origin_of(self.map, Host(f)).is_some()
     }
-    is_mapped(map, hints, paging::frame_of(e))
-}
 
-fn is_branch(z: Sizes, e: u64) -> bool
-    requires { Sized z }
-    ensures { result ≡ is_branch (machine64 z) e }
-{
-    if !is_made_with(0, e) {
-        return false;
+    #[tactic(auto, using(crate::proofs::Alls::low), unfolding(crate::specs::Rules::is_leaf))]
+    fn is_leaf(&self, e: u64) -> bool
+        ensures { result ≡ is_leaf tables64 self.now.map.now e }
+    {
+        is_made_with(paging::rights_of(e) % 2, e) && self.is_mapped(paging::frame_of(e))
     }
-    tables::named_by(z, e) < tables::table_count(z)
-}
 
-// Whether an entry of a table of this level is laid out rightly.
-fn is_laid_out(map: &[u64], hints: &[u8], z: Sizes, level: u64, e: u64) -> bool
-    requires { Sized z × (length hints.now ≡ 4096) }
-    ensures { result ≡ is_laid_out (machine64 z) map.now level e }
-{
-    if e == 0 {
-        return true;
+    #[tactic(auto, unfolding(crate::specs::Rules::is_branch))]
+    fn is_branch(&self, e: u64) -> bool
+        ensures { result ≡ is_branch (machine64 self.now.z) e }
+    {
+        is_made_with(0, e) && tables::named_by(self.z, e).is_some()
     }
-    if level == 0 {
-        return false;
-    }
-    if level == 1 {
-        return is_leaf(map, hints, e);
-    }
-    is_branch(z, e)
-}
 
-// Whether entry e of t, if it is present and above level 1, names a table of the same share, one level lower.
-fn names_lower(records: &[u64], z: Sizes, t: u64, e: u64) -> bool
-    requires { Sized z × (t ≤ 64) }
-    ensures { result ≡ names_lower (machine64 z) records.now t e }
-{
-    let level = tables::level_of(records, t);
-    if level <= 1 {
-        return true;
+    // Whether an entry of a table of this level is laid out rightly.
+    #[tactic(auto, unfolding(crate::specs::Rules::is_laid_out))]
+    fn is_laid_out(&self, level: u64, e: u64) -> bool
+        ensures { result ≡ is_laid_out (machine64 self.now.z) self.now.map.now level e }
+    {
+        e == 0
+            || match level {
+                0 => false,
+                1 => self.is_leaf(e),
+                _ => self.is_branch(e),
+            }
     }
-    if e == 0 {
-        return true;
-    }
-    let u = tables::named_by(z, e);
-    if tables::owner_of(records, z, u) != tables::owner_of(records, z, t) {
-        return false;
-    }
-    tables::level_of(records, u) == level - 1
-}
 
-fn entry_right(map: &[u64], hints: &[u8], records: &[u64], z: Sizes, t: u64, e: u64) -> bool
-    requires { Sized z × (t ≤ 64) × (length hints.now ≡ 4096) }
-    ensures { result ≡ entry_right (machine64 z) map.now records.now t e }
-{
-    if !is_laid_out(map, hints, z, tables::level_of(records, t), e) {
-        return false;
+    // Whether entry e of t, if it is present and above level 1, names a table of the same share, one level lower.
+    #[tactic(auto, using(tables::proofs::Names::bounds, tables::proofs::Names::named_none, crate::proofs::Strays::stray), unfolding(crate::specs::Rules::names_lower))]
+    fn names_lower(&self, t: u64, e: u64) -> bool
+        requires { t < table_count (machine64 self.now.z) }
+        ensures { result ≡ names_lower (machine64 self.now.z) self.now.records.now t e }
+    {
+        let level = tables::level_of(self.records, t);
+        if level <= 1 || e == 0 {
+            return true;
+        }
+        let Some(u) = tables::named_by(self.z, e) else {
+            return false;
+        };
+        tables::owner_of(self.records, self.z, u) == tables::owner_of(self.records, self.z, t)
+            && tables::level_of(self.records, u) == level - 1
     }
-    names_lower(records, z, t, e)
-}
 
-// An absent entry is passed over: most are, and a call copies every slice.
-fn entries_right(map: &[u64], hints: &[u8], pool: &[u64], records: &[u64], z: Sizes, t: u64) -> bool
-    requires { Sized z × (t ≤ 64) × (length hints.now ≡ 4096) }
-    ensures { result ≡ all frame_words (λ i. entry_right (machine64 z) map.now records.now t (entry_of (machine64 z) pool.now t i)) }
-{
-    let mut i = 0;
-    while i < paging::FRAME_WORDS {
-        let e = paging::entry_at(pool, t, i);
-        i += 1;
+    #[tactic(auto, unfolding(crate::specs::Rules::entry_right))]
+    fn entry_right(&self, t: u64, e: u64) -> bool
+        requires { t < table_count (machine64 self.now.z) }
+        ensures { result ≡ entry_right (machine64 self.now.z) self.now.map.now self.now.records.now t e }
+    {
+        self.is_laid_out(tables::level_of(self.records, t), e) && self.names_lower(t, e)
+    }
+
+    fn entries_right(&self, t: u64) -> bool
+        requires { t < table_count (machine64 self.now.z) }
+        ensures { result ≡ all frame_words (λ i. entry_right (machine64 self.now.z) self.now.map.now self.now.records.now t (entry_of (machine64 self.now.z) self.now.pool.now t i)) }
+    {
+        (0..paging::FRAME_WORDS).all(|i| self.entry_right(t, paging::entry_at(self.pool, t, i)))
+    }
+
+    #[tactic(auto, unfolding(crate::specs::Rules::is_root))]
+    fn is_root(&self, t: u64) -> bool
+        ensures { result ≡ is_root (machine64 self.now.z) t }
+    {
+        t == t / self.z.share * self.z.share
+    }
+
+    // What is asked of a root's record, and of another's.
+    #[tactic(auto, unfolding(crate::specs::Rules::record_right))]
+    fn record_right(&self, names: u64, t: u64) -> bool
+        requires { t ≤ 64 }
+        ensures { result ≡ record_right (machine64 self.now.z) self.now.records.now names t }
+    {
+        let level = tables::level_of(self.records, t);
+        let g = tables::shadowed_by(self.records, t);
+        if g.0 >= self.z.frames {
+            return false;
+        }
+        if self.is_root(t) {
+            return level == 4;
+        }
+        match level {
+            0 => g.0 == 0,
+            1..=3 => names == 1,
+            _ => false,
+        }
+    }
+
+    // ---- how often each table is named
+
+    fn tally_table(&self, counts: &mut [u64; 64], t: u64)
+        requires below { t < 64 }
+        requires tallied { Tallied self.now.z self.now.pool.now counts.old t }
+        ensures { Tallied self.now.z self.now.pool.now counts.new (t + 1) }
+    {
+        for i in 0..paging::FRAME_WORDS {
+            if let Some(u) = tables::named_by(self.z, paging::entry_at(self.pool, t, i)) {
+                counts[u as usize] += 1;
+            }
+        }
+    }
+
+    // One pass over the pool counts the names of all tables.
+    fn tally(&self) -> [u64; 64]
+        ensures { Tallied self.now.z self.now.pool.now result (table_count (machine64 self.now.z)) }
+    {
+        let mut counts = [0u64; 64];
+        for t in 0..tables::table_count(self.z) {
+            self.tally_table(&mut counts, t);
+        }
+        counts
+    }
+
+    #[tactic(auto, unfolding(crate::specs::Rules::table_right, crate::specs::Rules::names_of))]
+    fn table_right(&self, counts: &[u64; 64], t: u64) -> bool
+        requires below { t < table_count (machine64 self.now.z) }
+        requires tallied { Tallied self.now.z self.now.pool.now counts.now (table_count (machine64 self.now.z)) }
+        ensures { result ≡ table_right (machine64 self.now.z) self.now.map.now (shadow_of self.now.pool.now self.now.records.now) t }
+    {
+        self.record_right(counts[t as usize], t) && self.entries_right(t)
+    }
+
+    fn tables_right(&self) -> bool
+        ensures { result ≡ all (table_count (machine64 self.now.z)) (table_right (machine64 self.now.z) self.now.map.now (shadow_of self.now.pool.now self.now.records.now)) }
+    {
+        let counts = self.tally();
+        (0..tables::table_count(self.z)).all(|t| self.table_right(&counts, t))
+    }
+
+    // ---- whole tables
+
+    // Whether every entry of table t, of the given level, is whole; an absent one is.
+    #[cycle(entry_whole_table_whole)]
+    #[tactic(auto, using(crate::proofs::Alls::alls), unfolding(crate::specs::Rules::table_whole, crate::specs::Rules::entry_whole))]
+    fn table_whole(&self, t: u64, level: u64) -> bool
+        requires { t ≤ 64 }
+        ensures { result ≡ table_whole (machine64 self.now.z) self.now.map.now self.now.pool.now level t }
+    {
+        if level == 0 {
+            return true;
+        }
+        for i in 0..paging::FRAME_WORDS {
+            if !self.entry_whole(paging::entry_at(self.pool, t, i), level) {
+                return false;
+            }
+        }
+        true
+    }
+
+    // Whether e, an entry of a table of the given level, is whole.
+    #[cycle(entry_whole_table_whole)]
+    #[tactic(auto, using(crate::proofs::Alls::alls), unfolding(crate::specs::Rules::table_whole, crate::specs::Rules::entry_whole))]
+    fn entry_whole(&self, e: u64, level: u64) -> bool
+        requires { 0 < level }
+        ensures { result ≡ entry_whole (machine64 self.now.z) self.now.map.now self.now.pool.now level e }
+    {
         if e == 0 {
-            continue;
+            return true;
         }
-        if !entry_right(map, hints, records, z, t, e) {
+        if level == 1 {
+            return self.is_leaf(e);
+        }
+        let Some(u) = tables::named_by(self.z, e) else {
             return false;
-        }
+        };
+        self.table_whole(u, level - 1)
     }
-    true
-}
 
-fn is_root(z: Sizes, t: u64) -> bool
-    requires { Sized z }
-    ensures { result ≡ is_root (machine64 z) t }
-{
-    t == t / z.share * z.share
-}
+    fn roots_whole(&self) -> bool
+        ensures { result ≡ all self.now.z.processors (λ p. table_whole (machine64 self.now.z) self.now.map.now self.now.pool.now 4 (root_of (machine64 self.now.z) p)) }
+    {
+        (0..self.z.processors).all(|p| self.table_whole(tables::root_of(self.z, p), 4))
+    }
 
-// What is asked of a root's record, and of another's.
-fn record_right(records: &[u64], z: Sizes, names: u64, t: u64) -> bool
-    requires { Sized z × (t ≤ 64) }
-    ensures { result ≡ record_right (machine64 z) records.now names t }
-{
-    let level = tables::level_of(records, t);
-    let g = tables::shadowed_by(records, t);
-    if g.0 >= z.frames {
-        return false;
-    }
-    if is_root(z, t) {
-        return level == 4;
-    }
-    if level == 0 {
-        return g.0 == 0;
-    }
-    if level > 3 {
-        return false;
-    }
-    names == 1
-}
+    // ---- slots
 
-// ---- how often each table is named
+    // Whether a walk of a level stands on the table that its page reaches from the root, with that path's rights.
+    #[tactic(auto, unfolding(crate::specs::Rules::is_on_path))]
+    fn is_on_path(&self, p: u64, level: u64, s: Slot) -> bool
+        requires { (p < self.now.z.processors) × (level ≤ 4) }
+        ensures { result ≡ is_on_path (machine64 self.now.z) self.now.pool.now p s.page level s.place s.rights }
+    {
+        let w = tables::path_to(self.pool, self.z, p, s.page, level);
+        w.table < tables::table_count(self.z) && s.place == w.table && s.rights == w.rights
+    }
 
-fn tally_table(pool: &[u64], counts: &mut [u64], z: Sizes, t: u64)
-    requires sized { Sized z × (t < 64) }
-    requires tallied { Tallied z pool.now counts.old t }
-    ensures { Tallied z pool.now counts.new (t + 1) }
-{
-    let n = tables::table_count(z);
-    let mut i = 0;
-    while i < paging::FRAME_WORDS {
-        let u = tables::named_by(z, paging::entry_at(pool, t, i)) as usize;
-        if u < n as usize {
-            counts[u] += 1;
-        }
-        i += 1;
+    #[tactic(auto, unfolding(crate::specs::Rules::slot_right))]
+    fn slot_right(&self, p: u64, k: u64) -> bool
+        requires { (p < self.now.z.processors) × (k < slot_count) }
+        ensures { result ≡ slot_right (machine64 self.now.z) self.now.pool.now self.now.slots.now p k }
+    {
+        let s = slots::slot_of(self.slots, p, k);
+        s.page < 0x10_0000_0000
+            && match s.mark {
+                0 => s.page == 0 && s.place == 0 && s.rights == 0,
+                1 => s.place < self.z.frames,
+                2..=5 => self.is_on_path(p, s.mark - 1, s),
+                _ => false,
+            }
     }
-}
 
-// One pass over the pool counts the names of all tables.
-fn tally(pool: &[u64], counts: &mut [u64], z: Sizes)
-    requires sized { Sized z }
-    requires tallied { Tallied z pool.now counts.old 0 }
-    ensures { Tallied z pool.now counts.new (table_count (machine64 z)) }
-{
-    let n = tables::table_count(z);
-    let mut t = 0;
-    while t < n {
-        tally_table(pool, counts, z, t);
-        t += 1;
+    fn slots_of_right(&self, p: u64) -> bool
+        requires { p < self.now.z.processors }
+        ensures { result ≡ all slot_count (slot_right (machine64 self.now.z) self.now.pool.now self.now.slots.now p) }
+    {
+        (0..slots::SLOTS).all(|k| self.slot_right(p, k))
     }
-}
 
-fn records_right(
-    map: &[u64],
-    hints: &[u8],
-    pool: &[u64],
-    records: &[u64],
-    counts: &[u64],
-    z: Sizes,
-) -> bool
-    requires sized { Sized z × (length hints.now ≡ 4096) }
-    requires tallied { Tallied z pool.now counts.now (table_count (machine64 z)) }
-    ensures { result ≡ all (table_count (machine64 z)) (table_right (machine64 z) map.now (shadow_of pool.now records.now)) }
-{
-    let n = tables::table_count(z);
-    let mut t = 0;
-    while t < n {
-        if !record_right(records, z, counts[t as usize], t) {
-            return false;
-        }
-        if !entries_right(map, hints, pool, records, z, t) {
-            return false;
-        }
-        t += 1;
+    fn slots_right(&self) -> bool
+        ensures { result ≡ all self.now.z.processors (λ p. all slot_count (slot_right (machine64 self.now.z) self.now.pool.now self.now.slots.now p)) }
+    {
+        (0..self.z.processors).all(|p| self.slots_of_right(p))
     }
-    true
-}
 
-fn tables_right(map: &[u64], hints: &[u8], pool: &[u64], records: &[u64], z: Sizes) -> bool
-    requires { Sized z × (length hints.now ≡ 4096) }
-    ensures { result ≡ all (table_count (machine64 z)) (table_right (machine64 z) map.now (shadow_of pool.now records.now)) }
-{
-    let mut counts = [0u64; 64];
-    tally(pool, &mut counts, z);
-    records_right(map, hints, pool, records, &counts, z)
-}
-
-// ---- whole tables
-
-// Whether every entry of table t, of the given level, is whole; an absent one is.
-#[cycle(entry_whole_table_whole)]
-fn table_whole(map: &[u64], hints: &[u8], pool: &[u64], z: Sizes, t: u64, level: u64) -> bool
-    requires { Sized z × (t ≤ 64) × (length hints.now ≡ 4096) }
-    ensures { result ≡ table_whole (machine64 z) map.now pool.now level t }
-{
-    if level == 0 {
-        return true;
+    #[tactic(auto, unfolding(crate::specs::Rules::lawful))]
+    fn is_lawful(&self) -> bool
+        ensures { (words : List ℕ) → result ≡ lawful (machine64 self.now.z) self.now.map.now (state_of words (shadow_of self.now.pool.now self.now.records.now) self.now.slots.now) }
+    {
+        self.tables_right() && self.roots_whole() && self.slots_right()
     }
-    let mut i = 0;
-    while i < paging::FRAME_WORDS {
-        let e = paging::entry_at(pool, t, i);
-        i += 1;
-        if e == 0 {
-            continue;
-        }
-        if !entry_whole(map, hints, pool, z, e, level) {
-            return false;
-        }
-    }
-    true
-}
-
-// Whether e, an entry of a table of the given level, is whole.
-#[cycle(entry_whole_table_whole)]
-fn entry_whole(map: &[u64], hints: &[u8], pool: &[u64], z: Sizes, e: u64, level: u64) -> bool
-    requires { Sized z × (0 < level) × (length hints.now ≡ 4096) }
-    ensures { result ≡ entry_whole (machine64 z) map.now pool.now level e }
-{
-    if e == 0 {
-        return true;
-    }
-    if level == 1 {
-        return is_leaf(map, hints, e);
-    }
-    let u = tables::named_by(z, e);
-    if u >= tables::table_count(z) {
-        return false;
-    }
-    table_whole(map, hints, pool, z, u, level - 1)
-}
-
-fn roots_whole(map: &[u64], hints: &[u8], pool: &[u64], z: Sizes) -> bool
-    requires { Sized z × (length hints.now ≡ 4096) }
-    ensures { result ≡ all z.processors (λ p. table_whole (machine64 z) map.now pool.now 4 (root_of (machine64 z) p)) }
-{
-    let mut p = 0;
-    while p < z.processors {
-        if !table_whole(map, hints, pool, z, tables::root_of(z, p), 4) {
-            return false;
-        }
-        p += 1;
-    }
-    true
-}
-
-// ---- slots
-
-// Whether a walk of a level stands on the table that its page reaches from the root, with that path's rights.
-fn is_on_path(pool: &[u64], z: Sizes, p: u64, page: u64, level: u64, third: u64) -> bool
-    requires { Sized z × (p < z.processors) × (level ≤ 4) }
-    ensures { result ≡ is_on_path (machine64 z) pool.now p page level (third / 8) (third % 8) }
-{
-    let w = tables::path_to(pool, z, p, page, level);
-    if w.table >= tables::table_count(z) {
-        return false;
-    }
-    if third / 8 != w.table {
-        return false;
-    }
-    third % 8 == w.rights
-}
-
-fn slot_right(pool: &[u64], slots: &[u64], z: Sizes, p: u64, k: u64) -> bool
-    requires { Sized z × (p < z.processors) × (k < slot_count) × (slots_size * p + slots_size ≤ length slots.now) }
-    ensures { result ≡ slot_right (machine64 z) pool.now slots.now p k }
-{
-    let at = slots::slot_at(p, k);
-    let mark = slots[at];
-    let page = slots[at + 1];
-    let third = slots[at + 2];
-    if page >= 0x10_0000_0000 {
-        return false;
-    }
-    if mark == 0 {
-        if page != 0 {
-            return false;
-        }
-        return third == 0;
-    }
-    if mark == 1 {
-        return third / 8 < z.frames;
-    }
-    if mark > 5 {
-        return false;
-    }
-    is_on_path(pool, z, p, page, mark - 1, third)
-}
-
-fn slots_of_right(pool: &[u64], slots: &[u64], z: Sizes, p: u64) -> bool
-    requires { Sized z × (p < z.processors) × (slots_size * p + slots_size ≤ length slots.now) }
-    ensures { result ≡ all slot_count (slot_right (machine64 z) pool.now slots.now p) }
-{
-    let mut k = 0;
-    while k < slots::SLOTS {
-        if !slot_right(pool, slots, z, p, k) {
-            return false;
-        }
-        k += 1;
-    }
-    true
-}
-
-fn slots_right(pool: &[u64], slots: &[u64], z: Sizes) -> bool
-    requires { Sized z × (slots_size * z.processors ≤ length slots.now) }
-    ensures { result ≡ all z.processors (λ p. all slot_count (slot_right (machine64 z) pool.now slots.now p)) }
-{
-    let mut p = 0;
-    while p < z.processors {
-        if !slots_of_right(pool, slots, z, p) {
-            return false;
-        }
-        p += 1;
-    }
-    true
-}
-
-fn is_lawful_by(
-    map: &[u64],
-    hints: &[u8],
-    pool: &[u64],
-    records: &[u64],
-    slots: &[u64],
-    z: Sizes,
-) -> bool
-    requires { Sized z × (slots_size * z.processors ≤ length slots.now) × (length hints.now ≡ 4096) }
-    ensures { (words : List ℕ) → result ≡ lawful (machine64 z) map.now (state_of words (shadow_of pool.now records.now) slots.now) }
-{
-    if !tables_right(map, hints, pool, records, z) {
-        return false;
-    }
-    if !roots_whole(map, hints, pool, z) {
-        return false;
-    }
-    slots_right(pool, slots, z)
 }
 
 // Whether all state rules hold.
@@ -389,7 +282,13 @@ pub fn is_lawful(map: &[u64], pool: &[u64], records: &[u64], slots: &[u64], z: S
     requires { Sized z × (slots_size * z.processors ≤ length slots.now) }
     ensures { (words : List ℕ) → result ≡ lawful (machine64 z) map.now (state_of words (shadow_of pool.now records.now) slots.now) }
 {
-    let mut hints = [0u8; 4096];
-    give_hints(map, &mut hints);
-    is_lawful_by(map, &hints, pool, records, slots, z)
+    let known = Known {
+        map,
+        hints: &hints_of(map),
+        pool,
+        records,
+        slots,
+        z,
+    };
+    known.is_lawful()
 }

@@ -1,6 +1,7 @@
 -- What taking an event does, case by case, in the order of the code.
 use mathlib.Core.Path.{◌≡◌}
-use mathlib.Core.Bool.{Bool, true, false, cond, ◌&&◌}
+use mathlib.Core.Logic.{◌⊎◌, inl, inr}
+use mathlib.Core.Bool.{Bool, true, false, cond, ◌&&◌, and-false}
 use Prim.Native.Nat.{ℕ, ◌*◌, ◌≤◌, ◌<◌}
 use native.Mathlib.Omega.{arith}
 use lib.Dec.{T, eqb, eqb→eq}
@@ -10,9 +11,15 @@ use Rattle.paging.specs.Frame.{guest}
 use Rattle.paging.specs.Layout.{tables64, page_of}
 use Rattle.paging.proofs.Tests.{and_r}
 use Rattle.rules.specs.declared.Event.{Event}
+use Rattle.rules.specs.declared.Kind.{Kind}
+use Rattle.rules.specs.Numbers.{kind_number}
 use Rattle.rules.specs.History.{is_store, is_invlpg, is_cr3_write, is_by}
 use Rattle.held.specs.FollowCode.{reread_word, restarted}
 use Rattle.listing.specs.ReplayCode.{Replay, replay_of, Reach, forgets, applied}
+
+-- each kind has a number of its own
+pub same_kind : (k l : Kind) → kind_number k ≡ kind_number l → k ≡ l
+same_kind k l e = grind arith
 
 module _ (G page a : ℕ) where
   pub forgets-all : page_of tables64 a ≡ page → forgets G page a ≡ 0
@@ -53,9 +60,14 @@ module _ (G p page : ℕ) (e : Event) (s : Replay) where
         unfolding applied
         applied-cr3 k = simp (ne_eqb e.kind 1 no_store, eq-eqb e.proc p mine, ne_eqb e.kind 2 no-invlpg, eq-eqb e.kind 3 k)
 
-        pub applied_none : (e.kind ≡ 3 → ⊥) → applied G p page e s ≡ s
-        unfolding applied
-        applied_none n = simp (ne_eqb e.kind 1 no_store, eq-eqb e.proc p mine, ne_eqb e.kind 2 no-invlpg, ne_eqb e.kind 3 n)
+  pub applied_quiet : (e.kind ≡ 1 → ⊥) → (e.kind ≡ 2 → ⊥) → (e.kind ≡ 3 → ⊥) → applied G p page e s ≡ s
+  unfolding applied
+  applied_quiet a b c = simp (ne_eqb e.kind 1 a, ne_eqb e.kind 2 b, ne_eqb e.kind 3 c, and-false)
+
+  -- a number that is no kind's
+  pub applied_unknown : (e.kind ≡ 0) ⊎ (7 < e.kind) → applied G p page e s ≡ s
+  applied_unknown (inl z) = applied_quiet (λ k. omega arith) (λ k. omega arith) (λ k. omega arith)
+  applied_unknown (inr h) = applied_quiet (λ k. omega arith) (λ k. omega arith) (λ k. omega arith)
 
   -- the CR3 stays a frame of the guest
   pub applied_in : s.cr3 < G → Reach G e → (applied G p page e s).cr3 < G

@@ -1,6 +1,6 @@
 -- The outcomes collected from the bytes of the held walks are the right list.
 use Rattle.std.specs.Prelude.{Ok, Err}
-use mathlib.Core.Path.{◌≡◌, refl, sym, ◌∙◌, ap}
+use mathlib.Core.Path.{◌≡◌, refl, sym, ◌∙◌, ap, subst}
 use mathlib.Core.Logic.{◌⊎◌, inl, inr}
 use mathlib.Core.Bool.{Bool, true, false, cond}
 use mathlib.Core.List.Memᴰ
@@ -33,7 +33,7 @@ use Rattle.held.proofs.Cells.{cell_below, cell-own, complete_first}
 use Rattle.held.proofs.Closing.{ByteSet}
 use Rattle.held.proofs.Tracks.{Told, Tracks, kept_byte}
 use Rattle.listing.specs.Call.{pairs}
-use Rattle.listing.specs.CollectCode.{out_of, pushed, stop_code, walk_at, serves_with, serves, lacks_at, lacks, stops_at, stops, addresses, collected}
+use Rattle.listing.specs.CollectCode.{Out, out_of, pushed, walk_at, is_absent, is_beyond, serves_with, serves, lacks_at, lacks, stops_at, stops, addresses, collected}
 use Rattle.listing.proofs.Bytes.{byte_walk, byte_cell}
 use Rattle.listing.proofs.Pairs.{ifs, Wrote, wrote_none, wrote_push}
 use Rattle.paging.specs.Layout.{tables64}
@@ -87,13 +87,13 @@ module _ (G page : ℕ) (q : Request) (words work : List ℕ) where
 
   -- and the faults that are there, by rising code
   abbrev pub absents : List Outcome
-  absents = found G ++ ifs (stops G page words work 0) (Fault (0 + q.adds))
+  absents = found G ++ ifs (stops G page words work is_absent) (Fault (0 + q.adds))
 
   abbrev pub lackings : List Outcome
   lackings = absents ++ ifs (lacks G q work) (Fault (1 + q.adds))
 
   abbrev pub listed : List Outcome
-  listed = lackings ++ ifs (stops G page words work 9) (Fault (9 + q.adds))
+  listed = lackings ++ ifs (stops G page words work is_beyond) (Fault (9 + q.adds))
 
   found_e : (n : ℕ) (o : Outcome) → Mem o (found n) → (f : ℕ) × (f < n) × (serves G q work f ≡ true) × (o ≡ Address (guest f))
   unfolding found
@@ -122,38 +122,38 @@ module _ (G page : ℕ) (q : Request) (words work : List ℕ) where
 
   listed_rises : Rises listed
   listed_rises =
-      rises_ifs lackings (stops G page words work 9) (Fault (9 + q.adds)) (rises_ifs absents (lacks G q work) (Fault (1 + q.adds)) (rises_ifs (found G) (stops G page words work 0) (Fault (0 + q.adds)) (found_rises G) (address (0 + q.adds))) first) second
+      rises_ifs lackings (stops G page words work is_beyond) (Fault (9 + q.adds)) (rises_ifs absents (lacks G q work) (Fault (1 + q.adds)) (rises_ifs (found G) (stops G page words work is_absent) (Fault (0 + q.adds)) (found_rises G) (address (0 + q.adds))) first) second
     where
       address : (c : ℕ) (y : Outcome) → Mem y (found G) → Before y (Fault c)
       address c y m = let (f, h, s, e) = found_e G y m in rw e tt
 
       first : (y : Outcome) → Mem y absents → Before y (Fault (1 + q.adds))
-      first y m = pick (mem_ifs (found G) (stops G page words work 0) (Fault (0 + q.adds)) y m)
+      first y m = pick (mem_ifs (found G) (stops G page words work is_absent) (Fault (0 + q.adds)) y m)
         where
-          pick : Mem y (found G) ⊎ ((stops G page words work 0 ≡ true) × (y ≡ Fault (0 + q.adds))) → Before y (Fault (1 + q.adds))
+          pick : Mem y (found G) ⊎ ((stops G page words work is_absent ≡ true) × (y ≡ Fault (0 + q.adds))) → Before y (Fault (1 + q.adds))
           pick (inl k) = address (1 + q.adds) y k
           pick (inr (s, e)) = let lt : 0 + q.adds < 1 + q.adds = omega arith in rw e lt
 
       second : (y : Outcome) → Mem y lackings → Before y (Fault (9 + q.adds))
       second y m = pick (mem_ifs absents (lacks G q work) (Fault (1 + q.adds)) y m)
         where
-          low : Mem y (found G) ⊎ ((stops G page words work 0 ≡ true) × (y ≡ Fault (0 + q.adds))) → Before y (Fault (9 + q.adds))
+          low : Mem y (found G) ⊎ ((stops G page words work is_absent ≡ true) × (y ≡ Fault (0 + q.adds))) → Before y (Fault (9 + q.adds))
           low (inl k) = address (9 + q.adds) y k
           low (inr (s, e)) = let lt : 0 + q.adds < 9 + q.adds = omega arith in rw e lt
 
           pick : Mem y absents ⊎ ((lacks G q work ≡ true) × (y ≡ Fault (1 + q.adds))) → Before y (Fault (9 + q.adds))
-          pick (inl k) = low (mem_ifs (found G) (stops G page words work 0) (Fault (0 + q.adds)) y k)
+          pick (inl k) = low (mem_ifs (found G) (stops G page words work is_absent) (Fault (0 + q.adds)) y k)
           pick (inr (s, e)) = let lt : 1 + q.adds < 9 + q.adds = omega arith in rw e lt
 
   -- ---- the writers write it
 
   addresses_wrote : (before : List ℕ) → 2 * (G + 3) ≤ length before → (n : ℕ) → n ≤ G
-      → Wrote before (found n) (each n (λ f. pushed (serves G q work f) 0 f) (out_of 0 before)) × (length (found n) ≤ n)
+      → Wrote before (found n) (each n (λ f. pushed (serves G q work f) (Address (guest f))) (out_of 0 before)) × (length (found n) ≤ n)
   unfolding found each
   addresses_wrote before room zero le = (wrote_none before, omega arith)
   addresses_wrote before room (suc n) le =
       let (w, few) = addresses_wrote before room n (omega arith) in (
-        wrote_push before (found n) _ w (omega arith) (serves G q work n) (Address (guest n)) 0 n refl,
+        wrote_push before (found n) _ w (omega arith) (serves G q work n) (Address (guest n)),
         omega (arith, length-append (found n) (ifs (serves G q work n) (Address (guest n))), ifs-length (serves G q work n) (Address (guest n))),
       )
 
@@ -161,29 +161,29 @@ module _ (G page : ℕ) (q : Request) (words work : List ℕ) where
   unfolding collected addresses
   collected_wrote before room =
       let (w, few) = addresses_wrote before room G (omega arith) in
-      let zero-code : pairs (Fault (0 + q.adds) ∷ []) ≡ 1 ∷ q.adds ∷ [] = let z : 0 + q.adds ≡ q.adds = omega arith in rw z in
-      let s = stops G page words work 0 in
+      let s = stops G page words work is_absent in
       let l₀ : length absents ≤ G + 1 = omega (arith, length-append (found G) (ifs s (Fault (0 + q.adds))), ifs-length s (Fault (0 + q.adds))) in
       let m = lacks G q work in
       let l₁ : length lackings ≤ G + 2 = omega (arith, length-append absents (ifs m (Fault (1 + q.adds))), ifs-length m (Fault (1 + q.adds))) in
-      wrote_push before lackings _
-      (wrote_push before absents _ (wrote_push before (found G) _ w (omega arith) s (Fault (0 + q.adds)) 1 q.adds zero-code) (omega arith) m (Fault (1 + q.adds)) 1 (1 + q.adds) refl)
-      (omega arith) (stops G page words work 9) (Fault (9 + q.adds)) 1 (9 + q.adds) refl
+      let zero-code : 0 + q.adds ≡ q.adds = omega arith in
+      let w₀ = ap (λ (n : ℕ). pushed s (Fault n) (each G (λ f. pushed (serves G q work f) (Address (guest f))) (out_of 0 before))) zero-code in
+      let w₁ : Wrote before absents (pushed s (Fault q.adds) (each G (λ f. pushed (serves G q work f) (Address (guest f))) (out_of 0 before))) =
+      subst (λ (o : Out). Wrote before absents o) w₀ (wrote_push before (found G) _ w (omega arith) s (Fault (0 + q.adds))) in
+      wrote_push before lackings _ (wrote_push before absents _ w₁ (omega arith) m (Fault (1 + q.adds))) (omega arith) (stops G page words work is_beyond) (Fault (9 + q.adds))
 
 -- ---- and it is the right one
 
--- a step by its stop code
-absent_is : (s : Step) → stop_code s ≡ 0 → s ≡ (Err Absent)
-absent_is (Ok w) e = absurd (omega arith)
+absent_is : (s : Step) → is_absent s ≡ true → s ≡ Err Absent
+absent_is (Ok w) e = cc
 absent_is (Err Absent) e = refl
-absent_is (Err Beyond) e = absurd (omega arith)
-absent_is (Err Complete) e = absurd (omega arith)
+absent_is (Err Beyond) e = cc
+absent_is (Err Complete) e = cc
 
-beyond_is : (s : Step) → stop_code s ≡ 9 → s ≡ (Err Beyond)
-beyond_is (Ok w) e = absurd (omega arith)
-beyond_is (Err Absent) e = absurd (omega arith)
+beyond_is : (s : Step) → is_beyond s ≡ true → s ≡ Err Beyond
+beyond_is (Ok w) e = cc
+beyond_is (Err Absent) e = cc
 beyond_is (Err Beyond) e = refl
-beyond_is (Err Complete) e = absurd (omega arith)
+beyond_is (Err Complete) e = cc
 
 module _ (seen : View) (G page : ℕ) (words : ℕ → List ℕ) (t : Told tables64 seen G page words) (some-frame : 0 < G) (q : Request) (n : ℕ) (work : List ℕ)
     (tracks : Tracks tables64 seen G page words n work) where
@@ -215,15 +215,15 @@ module _ (seen : View) (G page : ℕ) (words : ℕ → List ℕ) (t : Told table
       let top : w.level ≡ 0 = (complete_first G w (byte_walk G k some-frame in-work)).0 (omega (arith, byte_cell G k some-frame)) in
       permit w (Err Complete) (Fault (1 + q.adds)) (held_at k in-work m) (t.law.done n w top) (rw bad (Memᴰ.head refl))
 
-  from_stops : (base : ℕ) (s : Step) → ((x : Step) → stop_code x ≡ base → x ≡ s) → (o : Outcome) → ((w : Walk) → Mem o (given q w s))
-      → stops G page (words n) work base ≡ true → Permitted seen q n o
+  from_stops : (so : Step → Bool) (s : Step) → ((x : Step) → so x ≡ true → x ≡ s) → (o : Outcome) → ((w : Walk) → Mem o (given q w s))
+      → stops G page (words n) work so ≡ true → Permitted seen q n o
   unfolding stops
-  from_stops base s is o gives e =
-      let (j, hj, u) = some_e (λ j. stops_at G page (words n) work base (8 * G + j)) (32 * G) e in
+  from_stops so s is o gives e =
+      let (j, hj, u) = some_e (λ j. stops_at G page (words n) work so (8 * G + j)) (32 * G) e in
       let k = 8 * G + j in
       let m = eqb-true (get_or work k 0) 1 (T_true _ (and_l (eqb (get_or work k 0) 1) _ (true_T _ u))) in
-      let code = eqb-true (stop_code (step_in tables64 G page (words n) (walk_at G k))) base (T_true _ (and_r (eqb (get_or work k 0) 1) _ (true_T _ u))) in
-      permit (walk_at G k) s o (held_at k (omega arith) m) (t.reads n (walk_at G k) ∙ is _ code) (gives (walk_at G k))
+      let stopped = T_true _ (and_r (eqb (get_or work k 0) 1) _ (true_T _ u)) in
+      permit (walk_at G k) s o (held_at k (omega arith) m) (t.reads n (walk_at G k) ∙ is _ stopped) (gives (walk_at G k))
 
   -- ---- the other way
 
@@ -249,18 +249,17 @@ module _ (seen : View) (G page : ℕ) (words : ℕ → List ℕ) (t : Told table
         let fails : enough q (cell G w % 8) ≡ false = ap (enough q) low ∙ bad in
         some_i (lacks_at q work) (8 * G) (cell G w) ((complete_first G w byte).1 z) (simp (eq-eqb (get_or work (cell G w) 0) 1 (tracks.full w h), fails))
 
-    to_stops : (base : ℕ) → (w.level ≡ 0 → ⊥) → stop_code (seen.steps n w) ≡ base → stops G page (words n) work base ≡ true
+    to_stops : (so : Step → Bool) → (w.level ≡ 0 → ⊥) → so (seen.steps n w) ≡ true → stops G page (words n) work so ≡ true
     unfolding stops
-    to_stops base up code =
+    to_stops so up stopped =
         let high : 8 * G ≤ cell G w = above in
         let j = cell G w - 8 * G in
         let at : 8 * G + j ≡ cell G w = omega arith in
         let m : get_or work (8 * G + j) 0 ≡ 1 = ap (λ (k : ℕ). get_or work k 0) at ∙ tracks.full w h in
-        let c : stop_code (step_in tables64 G page (words n) (walk_at G (8 * G + j))) ≡ base =
-        ap (λ (k : ℕ). stop_code (step_in tables64 G page (words n) (walk_at G k))) at ∙ ap (λ (v : Walk). stop_code (step_in tables64 G page (words n) v)) walk_back
-        ∙ ap (λ (s : Step). stop_code s) (sym (t.reads n w)) ∙ code in
-        some_i (λ j. stops_at G page (words n) work base (8 * G + j)) (32 * G) j (omega (arith, cell_below G w byte))
-        (simp (eq-eqb (get_or work (8 * G + j) 0) 1 m, eq-eqb (stop_code (step_in tables64 G page (words n) (walk_at G (8 * G + j)))) base c))
+        let c : so (step_in tables64 G page (words n) (walk_at G (8 * G + j))) ≡ true =
+        ap (λ (k : ℕ). so (step_in tables64 G page (words n) (walk_at G k))) at ∙ ap (λ (v : Walk). so (step_in tables64 G page (words n) v)) walk_back
+        ∙ ap so (sym (t.reads n w)) ∙ stopped in
+        some_i (λ j. stops_at G page (words n) work so (8 * G + j)) (32 * G) j (omega (arith, cell_below G w byte)) (simp (eq-eqb (get_or work (8 * G + j) 0) 1 m, c))
       where
         above : 8 * G ≤ cell G w
         above = go (dec_lt (cell G w) (8 * G))
@@ -274,19 +273,19 @@ module _ (seen : View) (G page : ℕ) (words : ℕ → List ℕ) (t : Told table
   listed-right = record { rises = listed_rises G page q (words n) work; exact = λ o. (to o, from o) }
     where
       to : (o : Outcome) → Mem o (listed G page q (words n) work) → Permitted seen q n o
-      to o m = third (mem_ifs (lackings G page q (words n) work) (stops G page (words n) work 9) (Fault (9 + q.adds)) o m)
+      to o m = third (mem_ifs (lackings G page q (words n) work) (stops G page (words n) work is_beyond) (Fault (9 + q.adds)) o m)
         where
-          first : Mem o (found G page q (words n) work G) ⊎ ((stops G page (words n) work 0 ≡ true) × (o ≡ Fault (0 + q.adds))) → Permitted seen q n o
+          first : Mem o (found G page q (words n) work G) ⊎ ((stops G page (words n) work is_absent ≡ true) × (o ≡ Fault (0 + q.adds))) → Permitted seen q n o
           first (inl k) = let (f, hf, s, e) = found_e G page q (words n) work G o k in rw e (from_serves f hf s)
-          first (inr (s, e)) = rw e (from_stops 0 (Err Absent) absent_is (Fault (0 + q.adds)) (λ w. Memᴰ.head refl) s)
+          first (inr (s, e)) = rw e (from_stops is_absent (Err Absent) absent_is (Fault (0 + q.adds)) (λ w. Memᴰ.head refl) s)
 
           second : Mem o (absents G page q (words n) work) ⊎ ((lacks G q work ≡ true) × (o ≡ Fault (1 + q.adds))) → Permitted seen q n o
-          second (inl k) = first (mem_ifs (found G page q (words n) work G) (stops G page (words n) work 0) (Fault (0 + q.adds)) o k)
+          second (inl k) = first (mem_ifs (found G page q (words n) work G) (stops G page (words n) work is_absent) (Fault (0 + q.adds)) o k)
           second (inr (s, e)) = rw e (from_lacks s)
 
-          third : Mem o (lackings G page q (words n) work) ⊎ ((stops G page (words n) work 9 ≡ true) × (o ≡ Fault (9 + q.adds))) → Permitted seen q n o
+          third : Mem o (lackings G page q (words n) work) ⊎ ((stops G page (words n) work is_beyond ≡ true) × (o ≡ Fault (9 + q.adds))) → Permitted seen q n o
           third (inl k) = second (mem_ifs (absents G page q (words n) work) (lacks G q work) (Fault (1 + q.adds)) o k)
-          third (inr (s, e)) = rw e (from_stops 9 (Err Beyond) beyond_is (Fault (9 + q.adds)) (λ w. Memᴰ.head refl) s)
+          third (inr (s, e)) = rw e (from_stops is_beyond (Err Beyond) beyond_is (Fault (9 + q.adds)) (λ w. Memᴰ.head refl) s)
 
       from : (o : Outcome) → Permitted seen q n o → Mem o (listed G page q (words n) work)
       from o p = by (seen.steps n p.walk) refl p.gives
@@ -313,9 +312,9 @@ module _ (seen : View) (G page : ℕ) (words : ℕ → List ℕ) (t : Told table
           by : (s : Step) → seen.steps n p.walk ≡ s → Mem o (given q p.walk s) → Mem o (listed G page q (words n) work)
           by (Ok x) e m = absurd (Memᴰ.not-nil m)
           by (Err Absent) e m =
-              rw (one m) (Memᴰ.append_left _ (Memᴰ.append_left _ (ifs_new (found G page q (words n) work G) (stops G page (words n) work 0) (Fault (0 + q.adds))
-              (to_stops p.walk h 0 (up e (λ d. let z : ◌≡◌ {A = ℕ} 0 1 = cc in omega arith)) (ap (λ (s : Step). stop_code s) e)))))
+              rw (one m) (Memᴰ.append_left _ (Memᴰ.append_left _ (ifs_new (found G page q (words n) work G) (stops G page (words n) work is_absent) (Fault (0 + q.adds))
+              (to_stops p.walk h is_absent (up e (λ d. let z : ◌≡◌ {A = ℕ} 0 1 = cc in omega arith)) (ap is_absent e)))))
           by (Err Beyond) e m =
-              rw (one m) (ifs_new (lackings G page q (words n) work) (stops G page (words n) work 9) (Fault (9 + q.adds))
-              (to_stops p.walk h 9 (up e (λ d. let z : ◌≡◌ {A = ℕ} 0 1 = cc in omega arith)) (ap (λ (s : Step). stop_code s) e)))
+              rw (one m) (ifs_new (lackings G page q (words n) work) (stops G page (words n) work is_beyond) (Fault (9 + q.adds))
+              (to_stops p.walk h is_beyond (up e (λ d. let z : ◌≡◌ {A = ℕ} 0 1 = cc in omega arith)) (ap is_beyond e)))
           by (Err Complete) e m = judged (enough q p.walk.rights) refl (t.law.undone n p.walk e) (one m)

@@ -1,6 +1,7 @@
 pub mod Applies
 pub mod Bytes
 pub mod Refuses
+pub mod Chains
 pub mod Accepts
 pub mod Replays
 pub mod Pairs

@@ -2,15 +2,15 @@
 use mathlib.Core.Path.{◌≡◌, refl, sym, ◌∙◌, ap, ap₂}
 use mathlib.Core.Bool.{Bool, true, false, cond}
 use mathlib.Core.List.{List, [], ◌∷◌, ◌++◌, append-nil, append_assoc}
-use Prim.Native.Nat.{ℕ, suc, ◌+◌, ◌*◌, ◌<◌}
+use Prim.Native.Nat.{ℕ, suc, ◌+◌, ◌*◌, ◌≤◌, ◌<◌}
 use native.Mathlib.Numerals.{add-one}
 use native.Mathlib.Omega.{arith}
-use lib.ListN.{length, drop, get_or, set, length-append}
+use lib.ListN.{length, drop, get_or, set, length-set, length-append}
 use lib.Seq.{drop-cons, set_at}
 use Rattle.rules.specs.declared.Outcome.{Outcome}
 use Rattle.rules.specs.declared.Outcome.TheVariants.{Address, Fault}
 use Rattle.listing.specs.Call.{pairs}
-use Rattle.listing.specs.CollectCode.{Out, out_of, pushed}
+use Rattle.listing.specs.CollectCode.{Out, out_of, tag_of, value_of, pushed}
 
 -- the outcome, if the test passed
 abbrev pub ifs : Bool → Outcome → List Outcome
@@ -53,17 +53,30 @@ two front before n a b len room =
         ∙ ap (λ (l : List ℕ). get_or before n 0 ∷ l) (drop-cons before (n + 1) 0 room)
         ∙ ap (λ (k : ℕ). get_or before n 0 ∷ get_or before (n + 1) 0 ∷ drop k before) b
 
+pair_is : (x : Outcome) → pairs (x ∷ []) ≡ tag_of x ∷ value_of x ∷ []
+pair_is (Address f) = refl
+pair_is (Fault c) = refl
+
 pub wrote_push : (before : List ℕ) (os : List Outcome) (o : Out) → Wrote before os o → 2 * length os + 1 < length before
-    → (b : Bool) (x : Outcome) (tag v : ℕ) → pairs (x ∷ []) ≡ tag ∷ v ∷ [] → Wrote before (os ++ ifs b x) (pushed b tag v o)
-wrote_push before os o w room false x tag v e = rw (append-nil os) w
-wrote_push before os o w room true x tag v e =
+    → (b : Bool) (x : Outcome) → Wrote before (os ++ ifs b x) (pushed b x o)
+wrote_push before os o w room false x = rw (append-nil os) w
+wrote_push before os o w room true x =
     let n = length os in
     let longer : length (os ++ (x ∷ [])) ≡ n + 1 = omega (arith, length-append os (x ∷ [])) in
     let next : 2 * n + 2 ≡ 2 * length (os ++ (x ∷ [])) = omega arith in
     record {
       counted = ap (λ (k : ℕ). k + 1) w.counted ∙ sym longer;
-      holds = ap₂ (λ (l : List ℕ) (k : ℕ). set (set l (2 * k) tag) (2 * k + 1) v) w.holds w.counted
-          ∙ two (pairs os) before (2 * n) tag v (pairs-length os) room
-          ∙ ap₂ (λ (l : List ℕ) (k : ℕ). (pairs os ++ l) ++ drop k before) (sym e) next
+      holds = ap₂ (λ (l : List ℕ) (k : ℕ). set (set l (2 * k) (tag_of x)) (2 * k + 1) (value_of x)) w.holds w.counted
+          ∙ two (pairs os) before (2 * n) (tag_of x) (value_of x) (pairs-length os) room
+          ∙ ap₂ (λ (l : List ℕ) (k : ℕ). (pairs os ++ l) ++ drop k before) (sym (pair_is x)) next
           ∙ ap (λ (l : List ℕ). l ++ drop (2 * length (os ++ (x ∷ []))) before) (sym (pairs_append os (x ∷ [])));
     }
+
+-- one pair more at most, and no number more
+pub pushed_count : (b : Bool) (x : Outcome) (o : Out) → (pushed b x o).count ≤ o.count + 1
+pushed_count true x o = omega arith
+pushed_count false x o = omega arith
+
+pub pushed_size : (b : Bool) (x : Outcome) (o : Out) → length (pushed b x o).buffer ≡ length o.buffer
+pushed_size true x o = simp length-set
+pushed_size false x o = refl

@@ -1,14 +1,17 @@
 -- The first refusal of a row of them.
 use mathlib.Core.Path.{◌≡◌, refl, sym, ◌∙◌, ap}
-use mathlib.Core.Bool.{true, false}
+use mathlib.Core.Bool.{Bool, true, false, cond}
 use Prim.Native.Nat.{ℕ, zero, suc, ◌+◌, ◌/◌, ◌^◌, ◌<◌}
 use native.Mathlib.Numerals.{add-one}
 use native.Mathlib.Decide.{ℕ_discrete}
 use native.Mathlib.Omega.{arith}
 use lib.ListN.{length}
-use borrow.Author.Tests.{eq-eqb, ne_eqb}
+use lib.Dec.{eqb}
+use borrow.Author.Tests.{eq-eqb, ne_eqb, eqb-false}
 use Rattle.paging.specs.Frame.{map_fits, cr3s_fit}
-use Rattle.rules.specs.Refusal.{refusal}
+use Rattle.rules.specs.declared.Refusal.{Refusal}
+use Rattle.rules.specs.Refusal.{refusal, number_of}
+use Rattle.rules.proofs.Refusals.{some_number}
 use Rattle.rules.specs.History.{event_refusal}
 use Rattle.rules.specs.Outcome.{question_refusal}
 use Rattle.listing.specs.Call.{Asked, Lent, setup_asked, lengths_fit, or_else, first_refusal, list_refusal}
@@ -54,6 +57,15 @@ module _ (f : ℕ → ℕ) where
       go : Dec (k ≡ n) → f n ≡ 0 → (k < n → f k ≡ 0) → f k ≡ 0
       go (yes e) b ih = rw e b
       go (no d) b ih = ih (omega arith)
+
+-- a test that refuses, and one that does not
+pub refused : (r : Refusal) (fits : Bool) (m : ℕ) → number_of r ≡ cond fits 0 m → (fits ≡ false) × (number_of r ≡ m)
+refused r true m e = absurd (omega (arith, some_number r))
+refused r false m e = (refl, e)
+
+pub passed : (fits : Bool) (m : ℕ) → eqb m 0 ≡ false → ◌≡◌ {A = ℕ} 0 (cond fits 0 m) → fits ≡ true
+passed true m h e = refl
+passed false m h e = absurd (eqb-false m 0 h (sym e))
 
 -- ---- the list call's own order
 

@@ -10,13 +10,15 @@ use lib.ListN.{length}
 use Rattle.rules.specs.Numbers.{event_of}
 use Rattle.rules.specs.History.{event_refusal}
 use Rattle.rules.proofs.Ranges.{below_twelve, event-below_twelve}
-use Rattle.listing.specs.declared.Listed.{Listed}
-use Rattle.listing.specs.Call.{Asked, Lent, setup_asked, refusal_of, count_of, or_else, first_refusal, list_refusal, ListCall}
+use Rattle.std.specs.Prelude.{Result}
+use Rattle.rules.specs.declared.Refusal.{Refusal}
+use Rattle.rules.specs.Refusal.{refusal_of}
+use Rattle.listing.specs.Call.{Asked, Lent, setup_asked, count_of, or_else, first_refusal, list_refusal, ListCall}
 use Rattle.listing.proofs.Accepts.{accepted}
 use Rattle.listing.proofs.Promise.{same_lists, same_answer}
 
 -- ANY TWO RESULTS THAT THE PROMISE ALLOWS ARE EQUAL, the answer and every buffer, refused or not
-pub one_result : (q : Asked) (before : Lent) (r s : Listed) (x y : Lent) → ListCall q before r x → ListCall q before s y → (r ≡ s) × (x ≡ y)
+pub one_result : (q : Asked) (before : Lent) (r s : Result ℕ Refusal) (x y : Lent) → ListCall q before r x → ListCall q before s y → (r ≡ s) × (x ≡ y)
 one_result q before r s x y a b = go (ℕ_discrete (list_refusal q before) 0)
   where
     numbers : refusal_of r ≡ refusal_of s
@@ -26,11 +28,11 @@ one_result q before r s x y a b = go (ℕ_discrete (list_refusal q before) 0)
     go (no n) =
         let (c, e) = a.refused n in
         let (d, f) = b.refused n in
-        (same_answer q before r s numbers (c ∙ sym d) (λ z. absurd (n (sym a.number ∙ z))), e ∙ sym f)
+        (same_answer q before r s numbers (c ∙ sym d), e ∙ sym f)
     go (yes z) =
         let some : 0 < length q.map = (accepted q before z).sizes.some in
         let (buffers, counts, more) = same_lists q before some x y (count_of r) (count_of s) (a.listed z) (b.listed z) in
-        (same_answer q before r s numbers counts (λ e. more), buffers)
+        (same_answer q before r s numbers counts, buffers)
 
 -- ITS NUMBER IS BELOW 12
 

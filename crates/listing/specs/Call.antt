@@ -1,20 +1,19 @@
 -- "Every permitted outcome": the list call over lent buffers, and what it promises.
-use Rattle.std.specs.Prelude.{◌≡◌, Bool, cond, not, ◌&&◌, List, [], ◌∷◌, ◌++◌, ℕ, zero, suc, ◌+◌, ◌*◌, ◌/◌, ◌%◌, ◌^◌, eqb, leb, length, drop}
+use Rattle.std.specs.Prelude.{◌≡◌, Bool, cond, not, ◌&&◌, List, [], ◌∷◌, ◌++◌, ℕ, zero, suc, ◌+◌, ◌*◌, ◌/◌, ◌%◌, ◌^◌, eqb, leb, length, drop, Result, Ok, Err}
 use Rattle.paging.specs.Numbers.{is_between}
 use Rattle.paging.specs.Frame.{map_fits, cr3s_fit}
 use Rattle.paging.specs.Layout.{tables64, frame_words, page_of}
 use Rattle.rules.specs.declared.Question.{Question}
 use Rattle.rules.specs.declared.Outcome.{Outcome}
 use Rattle.rules.specs.declared.Outcome.TheVariants.{Address, Fault}
-use Rattle.rules.specs.Refusal.{test, refusal}
+use Rattle.rules.specs.declared.Refusal.{Refusal}
+use Rattle.rules.specs.Refusal.{test, refusal, refusal_of}
 use Rattle.rules.specs.History.{Setup, setup64, event_refusal, words_at}
 use Rattle.rules.specs.View.{view_of, never}
 use Rattle.rules.specs.Numbers.{event_of, events_of}
 use Rattle.rules.specs.Held.{Held}
 use Rattle.rules.specs.Outcome.{RightAt, question_refusal}
 use Rattle.held.specs.Work.{work_bytes, WorkTells}
-use Rattle.listing.specs.declared.Listed.{Listed}
-use Rattle.listing.specs.declared.Listed.TheVariants.{Count, Refused}
 
 -- what the call reads
 pub record Asked : Type 0 where
@@ -78,14 +77,10 @@ pairs [] = []
 pairs (Address f ∷ os) = 0 ∷ f.0 ∷ pairs os
 pairs (Fault c ∷ os) = 1 ∷ c ∷ pairs os
 
--- "A refusal returns its number, zeros else": the number and the count of each answer
-abbrev pub refusal_of : Listed → ℕ
-refusal_of (Count n) = 0
-refusal_of (Refused n) = n
-
-abbrev pub count_of : Listed → ℕ
-count_of (Count n) = n
-count_of (Refused n) = 0
+-- "A refusal returns its number, zeros else": the count of each answer; `refusal_of` of rules/specs/Refusal has the number
+abbrev pub count_of : Result ℕ Refusal → ℕ
+count_of (Ok n) = n
+count_of (Err r) = 0
 
 -- what an accepted call leaves: the right list and its count; "the rest stays"; "Guest words then hold the start with all
 -- stores done"; work bytes that say which walks are held
@@ -100,7 +95,7 @@ pub record Lists (q : Asked) (before after : Lent) (count : ℕ) : Type 0 where
       before.work after.work
 
 -- THE PROMISE OF THE LIST CALL
-pub record ListCall (q : Asked) (before : Lent) (r : Listed) (after : Lent) : Type 0 where
+pub record ListCall (q : Asked) (before : Lent) (r : Result ℕ Refusal) (after : Lent) : Type 0 where
   pub number : refusal_of r ≡ list_refusal q before
   pub refused : (list_refusal q before ≡ 0 → ⊥) → (count_of r ≡ 0) × (after ≡ before)
   pub listed : list_refusal q before ≡ 0 → Lists q before after (count_of r)

@@ -4,160 +4,102 @@
 
 ghost use Rattle.std.specs.Prelude.{◌≡◌, ℕ, ◌+◌, ◌-◌, ◌*◌, ◌/◌, ◌%◌, ◌≤◌, ◌<◌, length, List};
 ghost use Rattle.held.specs.Work.{work_bytes};
+ghost use Rattle.rules.specs.Refusal.{refusal_of};
 ghost use Rattle.rules.specs.History.{setup64, event_refusal};
 ghost use Rattle.listing.specs.Call.{Lent, asked, lent, sizes_fit, first_refusal, list_refusal, ListCall};
 ghost use Rattle.rules.specs.Numbers.{event_of};
 ghost use Rattle.listing.specs.AnswerCode.{Answerable, Answers};
 ghost use Rattle.listing.specs.ReplayCode.{Reach, replay_of, forgets, applied, replayed};
-ghost use Rattle.listing.specs.CollectCode.{out_of, pushed, stop_code, walk_at, serves_with, serves, lacks_at, lacks, stop_at, with_fault, stops, addresses, collected};
+ghost use Rattle.listing.specs.CollectCode.{Readable, written, out_of, walk_at, serves, lacks, is_absent, is_beyond, with_step, stops, addresses, collected};
 ghost use Rattle.held.specs.FollowCode.{Room};
 
-use paging::{Guest, Request, Step, Walk};
-use rules::{Event, Question};
+use held::AskedPage;
+use paging::{Guest, Request, Step, Stop, Walk};
+use rules::{Event, Kind, Outcome, Question, Refusal};
 
-// The number of outcomes, or why the call was refused.
-#[derive(Clone, Copy)]
-pub enum Listed {
-    Count(u64),
-    Refused(u64),
-}
-
-fn forgotten(frames: u64, page: u64, a: u64) -> usize
-    requires { frames ≤ 256 }
-    ensures { result ≡ forgets frames page a }
+fn forgotten(at: AskedPage, a: u64) -> usize
+    requires { at.frames ≤ 256 }
+    ensures { result ≡ forgets at.frames at.page a }
 {
-    if paging::page_of(a) == page {
-        return 0;
+    if paging::page_of(a) == at.page {
+        0
+    } else {
+        (8 * at.frames) as usize
     }
-    (8 * frames) as usize
 }
 
 // Takes one event; the result is the processor's CR3 after it.
-fn apply(
-    words: &mut [u64],
-    work: &mut [u8],
-    frames: u64,
-    p: u64,
-    page: u64,
-    cr3: u64,
-    e: Event,
-) -> u64
-    requires { Room frames words.old work.old × (cr3 < frames) × Reach frames e }
-    ensures { replay_of result words.new work.new ≡ applied frames p page e (replay_of cr3 words.old work.old) }
+fn apply(words: &mut [u64], work: &mut [u8], at: AskedPage, p: u64, cr3: u64, e: Event) -> u64
+    requires { Room at.frames words.old work.old × (cr3 < at.frames) × Reach at.frames e }
+    ensures { replay_of result words.new work.new ≡ applied at.frames p at.page e (replay_of cr3 words.old work.old) }
 {
-    let kind = e.kind;
-    let a = e.a;
-    if kind == 1 {
-        let i = a as usize;
-        words[i] = e.b;
-        held::reread_word(words, work, frames, page, a);
+    let Ok(kind) = Kind::try_from(e.kind) else {
         return cr3;
+    };
+    match kind {
+        Kind::Store => {
+            words[e.a as usize] = e.b;
+            held::reread_word(words, work, at, e.a);
+            cr3
+        }
+        Kind::Invlpg => {
+            if e.proc != p {
+                return cr3;
+            }
+            held::restart(words, work, at, forgotten(at, e.a), Guest(cr3));
+            cr3
+        }
+        Kind::Cr3Write => {
+            if e.proc != p {
+                return cr3;
+            }
+            held::restart(words, work, at, 0, Guest(e.a));
+            e.a
+        }
+        _ => cr3,
     }
-    if e.proc != p {
-        return cr3;
-    }
-    if kind == 2 {
-        let from = forgotten(frames, page, a);
-        held::restart(words, work, frames, page, from, Guest(cr3));
-        return cr3;
-    }
-    if kind == 3 {
-        held::restart(words, work, frames, page, 0, Guest(a));
-        return a;
-    }
-    cr3
 }
 
-// Takes all events in order.
+// Takes all events in order. A function of its own when it runs too, since each event is then faster by a tenth.
+#[inline(never)]
 fn replay(
     words: &mut [u64],
     work: &mut [u8],
     events: &[u64],
-    frames: u64,
+    at: AskedPage,
     p: u64,
-    page: u64,
     start: u64,
 ) -> u64
-    requires { Room frames words.old work.old × (start < frames) × ((k : ℕ) → k < length events.now / 4 → Reach frames (event_of events.now k)) }
-    ensures { replay_of result words.new work.new ≡ replayed frames p page events.now (length events.now / 4) (replay_of start words.old work.old) }
+    requires { Room at.frames words.old work.old × (start < at.frames) × ((k : ℕ) → k < length events.now / 4 → Reach at.frames (event_of events.now k)) }
+    ensures { replay_of result words.new work.new ≡ replayed at.frames p at.page events.now (length events.now / 4) (replay_of start words.old work.old) }
 {
-    let n = events.len() / 4;
+    let (events, _) = events.as_chunks::<4>();
     let mut cr3 = start;
-    let mut k = 0;
-    while k < n {
-        let e = rules::event_at(events, k);
-        cr3 = apply(words, work, frames, p, page, cr3, e);
-        k += 1;
+    for e in events {
+        cr3 = apply(words, work, at, p, cr3, rules::event_at(e, 0));
     }
     cr3
 }
 
 // ---- the outcomes
 
-fn serves_with(work: &[u8], frames: u64, q: Request, f: u64, r: u64) -> bool
-    requires { (frames ≤ 256) × (work_bytes frames ≤ length work.now) × (q.needs < 8) × (f < frames) × (r < 8) }
-    ensures { result ≡ serves_with frames q work.now f r }
-{
-    let w = Walk {
-        level: 0,
-        frame: Guest(f),
-        rights: r,
-    };
-    let k = held::cell_of(frames, w);
-    if work[k] != 1 {
-        return false;
-    }
-    paging::has_enough(q, r)
-}
-
+// Whether a held completed walk on frame f has enough rights.
 fn serves(work: &[u8], frames: u64, q: Request, f: u64) -> bool
-    requires { (frames ≤ 256) × (work_bytes frames ≤ length work.now) × (q.needs < 8) × (f < frames) }
+    requires { Readable frames q work.now × (f < frames) }
     ensures { result ≡ serves frames q work.now f }
 {
-    let mut r = 0;
-    while r < 8 {
-        if serves_with(work, frames, q, f, r) {
-            return true;
-        }
-        r += 1;
-    }
-    false
+    let first = (8 * f) as usize;
+    work[first..first + 8].iter().enumerate().any(|(rights, byte)| *byte == 1
+        && paging::has_enough(q, rights as u64))
 }
 
-fn lacks_at(work: &[u8], q: Request, k: usize) -> bool
-    requires { (q.needs < 8) × (k < length work.now) }
-    ensures { result ≡ lacks_at q work.now k }
-{
-    if work[k] != 1 {
-        return false;
-    }
-    !paging::has_enough(q, (k % 8) as u64)
-}
-
+// Whether a held completed walk lacks a right.
 fn lacks(work: &[u8], frames: u64, q: Request) -> bool
-    requires { (frames ≤ 256) × (work_bytes frames ≤ length work.now) × (q.needs < 8) }
+    requires { Readable frames q work.now }
     ensures { result ≡ lacks frames q work.now }
 {
-    let n = (8 * frames) as usize;
-    let mut k = 0;
-    while k < n {
-        if lacks_at(work, q, k) {
-            return true;
-        }
-        k += 1;
-    }
-    false
-}
-
-fn stop_code(s: Step) -> u64
-    ensures { result ≡ stop_code s }
-{
-    match s {
-        Step::On(_) => 1,
-        Step::Absent => 0,
-        Step::Beyond => 9,
-        Step::Complete => 1,
-    }
+    work[..(8 * frames) as usize].iter().enumerate().any(|(k, byte)| *byte == 1
+        && !paging::has_enough(q, k as u64 % 8))
 }
 
 fn walk_at(frames: u64, k: u64) -> Walk
@@ -171,18 +113,6 @@ fn walk_at(frames: u64, k: u64) -> Walk
     }
 }
 
-// The base code of the fault that the walk of byte k gives, if it is held; else 1, which no fault of an entry has.
-fn stop_at(words: &[u64], work: &[u8], frames: u64, page: u64, k: usize) -> u64
-    requires { Room frames words.now work.now × (0 < frames) × (k < work_bytes frames) }
-    ensures { result ≡ stop_at frames page words.now work.now k }
-{
-    if work[k] != 1 {
-        return 1;
-    }
-    let s = held::next(words, frames, page, walk_at(frames, k as u64));
-    stop_code(s)
-}
-
 // Which faults of entries the held partial walks give.
 #[derive(Clone, Copy)]
 struct Faults {
@@ -190,175 +120,164 @@ struct Faults {
     beyond: bool,
 }
 
-fn with_fault(s: Faults, code: u64) -> Faults
-    ensures { result ≡ with_fault s code }
-{
-    if code == 0 {
-        return Faults {
-            absent: true,
-            beyond: s.beyond,
-        };
+impl Faults {
+    fn with(self, step: Step) -> Faults
+        ensures { result ≡ with_step self step }
+    {
+        match step {
+            Err(Stop::Absent) => Faults {
+                absent: true,
+                ..self
+            },
+            Err(Stop::Beyond) => Faults {
+                beyond: true,
+                ..self
+            },
+            _ => self,
+        }
     }
-    if code == 9 {
-        return Faults {
-            absent: s.absent,
-            beyond: true,
-        };
-    }
-    s
 }
 
-fn find_faults(words: &[u64], work: &[u8], frames: u64, page: u64) -> Faults
-    requires { Room frames words.now work.now × (0 < frames) }
-    ensures { (result.absent ≡ stops frames page words.now work.now 0) × (result.beyond ≡ stops frames page words.now work.now 9) }
+fn find_faults(words: &[u64], work: &[u8], at: AskedPage) -> Faults
+    requires { Room at.frames words.now work.now × (0 < at.frames) }
+    ensures { (result.absent ≡ stops at.frames at.page words.now work.now is_absent) × (result.beyond ≡ stops at.frames at.page words.now work.now is_beyond) }
 {
-    let first = (8 * frames) as usize;
-    let n = (32 * frames) as usize;
-    let mut s = Faults {
+    let first = (8 * at.frames) as usize;
+    let end = (40 * at.frames) as usize;
+    let mut faults = Faults {
         absent: false,
         beyond: false,
     };
-    let mut j = 0;
-    while j < n {
-        s = with_fault(s, stop_at(words, work, frames, page, first + j));
-        j += 1;
+    for (j, byte) in work[first..end].iter().enumerate() {
+        if *byte == 1 {
+            let w = walk_at(at.frames, (first + j) as u64);
+            faults = faults.with(held::next(words, at, w));
+        }
     }
-    s
+    faults
 }
 
-// Writes one pair more, if there is one to write; the result is the count.
-fn push(outcomes: &mut [u64], n: u64, given: bool, tag: u64, value: u64) -> u64
-    requires { 2 * n + 1 < length outcomes.old }
-    ensures { (out_of result outcomes.new ≡ pushed given tag value (out_of n outcomes.old)) × (result ≤ n + 1) }
-{
-    if !given {
-        return n;
-    }
-    let i = (2 * n) as usize;
-    outcomes[i] = tag;
-    outcomes[i + 1] = value;
-    n + 1
+// The outcomes that were written so far, and the buffer that they stand in.
+#[derive(Drop)]
+struct Outcomes<'a> {
+    buffer: &'a mut [u64],
+    count: u64,
 }
 
-fn addresses(work: &[u8], outcomes: &mut [u64], frames: u64, q: Request) -> u64
-    requires { (frames ≤ 256) × (work_bytes frames ≤ length work.now) × (q.needs < 8) × (2 * frames ≤ length outcomes.old) }
-    ensures { (out_of result outcomes.new ≡ addresses frames q work.now outcomes.old) × (result ≤ frames) }
-{
-    let mut n = 0;
-    let mut f = 0;
-    while f < frames {
-        n = push(outcomes, n, serves(work, frames, q, f), 0, f);
-        f += 1;
+impl Outcomes<'_> {
+    // Writes one pair more.
+    fn push(&mut self, outcome: Outcome)
+        requires { 2 * self.old.count + 1 < length self.old.buffer.now }
+        ensures same_reference { self.new.buffer.ghost_name ≡ self.old.buffer.ghost_name }
+        ensures pair { out_of self.new.count self.new.buffer.now ≡ written outcome (out_of self.old.count self.old.buffer.now) }
+    {
+        let (tag, value) = match outcome {
+            Outcome::Address(f) => (0, f.0),
+            Outcome::Fault(code) => (1, code),
+        };
+        let i = (2 * self.count) as usize;
+        self.buffer[i] = tag;
+        self.buffer[i + 1] = value;
+        self.count += 1;
     }
-    n
+}
+
+// The addresses, by rising frame.
+fn addresses(work: &[u8], outcomes: &mut Outcomes, frames: u64, q: Request)
+    requires { Readable frames q work.now × (outcomes.old.count ≡ 0) × (2 * frames ≤ length outcomes.old.buffer.now) }
+    ensures same_reference { outcomes.new.buffer.ghost_name ≡ outcomes.old.buffer.ghost_name }
+    ensures pairs { out_of outcomes.new.count outcomes.new.buffer.now ≡ addresses frames q work.now outcomes.old.buffer.now }
+    ensures few { outcomes.new.count ≤ frames }
+    ensures size { length outcomes.new.buffer.now ≡ length outcomes.old.buffer.now }
+{
+    for f in 0..frames {
+        if serves(work, frames, q, f) {
+            outcomes.push(Outcome::Address(Guest(f)));
+        }
+    }
 }
 
 // Addresses by rising frame, then faults by rising code; the result is the count.
-fn collect(
-    words: &[u64],
-    work: &[u8],
-    outcomes: &mut [u64],
-    frames: u64,
-    page: u64,
-    q: Request,
-) -> u64
-    requires { Room frames words.now work.now × (0 < frames) × (q.needs < 8) × (q.adds ≤ 20) × (2 * (frames + 3) ≤ length outcomes.old) }
-    ensures { out_of result outcomes.new ≡ collected frames page q words.now work.now outcomes.old }
+fn collect(words: &[u64], work: &[u8], buffer: &mut [u64], at: AskedPage, q: Request) -> u64
+    requires { Room at.frames words.now work.now × (0 < at.frames) × (q.needs < 8) × (q.adds ≤ 20) × (2 * (at.frames + 3) ≤ length buffer.old) }
+    ensures { out_of result buffer.new ≡ collected at.frames at.page q words.now work.now buffer.old }
 {
-    let n = addresses(work, outcomes, frames, q);
-    let s = find_faults(words, work, frames, page);
-    let m = push(outcomes, n, s.absent, 1, q.adds);
-    let l = push(outcomes, m, lacks(work, frames, q), 1, 1 + q.adds);
-    push(outcomes, l, s.beyond, 1, 9 + q.adds)
+    let mut outcomes = Outcomes { buffer, count: 0 };
+    addresses(work, &mut outcomes, at.frames, q);
+    let faults = find_faults(words, work, at);
+    if faults.absent {
+        outcomes.push(Outcome::Fault(q.adds));
+    }
+    if lacks(work, at.frames, q) {
+        outcomes.push(Outcome::Fault(1 + q.adds));
+    }
+    if faults.beyond {
+        outcomes.push(Outcome::Fault(9 + q.adds));
+    }
+    outcomes.count
 }
 
 // ---- refusals
 
-fn sizes_fit(
-    map: usize,
-    cr3s: usize,
-    events: usize,
-    words: usize,
-    work: usize,
-    outcomes: usize,
-) -> bool
-    ensures { result ≡ sizes_fit map cr3s events words work outcomes }
-{
-    if !paging::is_between(1, 256, map as u64) {
-        return false;
-    }
-    if !paging::is_between(1, 4, cr3s as u64) {
-        return false;
-    }
-    if events % 4 != 0 {
-        return false;
-    }
-    if events / 4 > 4096 {
-        return false;
-    }
-    if words != paging::FRAME_WORDS * map {
-        return false;
-    }
-    if work < 40 * map {
-        return false;
-    }
-    outcomes >= 2 * (map + 3)
-}
-
-fn events_refusal(events: &[u64], frames: u64, processors: u64) -> u64
+fn test_events(frames: u64, processors: u64, events: &[u64]) -> Result<(), Refusal>
     requires { frames ≤ 256 }
-    ensures { (words cr3s : List ℕ) → result ≡ first_refusal (length events.now / 4) (λ k. event_refusal (setup64 frames processors words cr3s) (event_of events.now k)) }
+    ensures { (words cr3s : List ℕ) → refusal_of result ≡ first_refusal (length events.now / 4) (λ k. event_refusal (setup64 frames processors words cr3s) (event_of events.now k)) }
 {
-    let n = events.len() / 4;
-    let mut k = 0;
-    while k < n {
-        let r = rules::event_refusal(frames, processors, rules::event_at(events, k));
-        if r != 0 {
-            return r;
-        }
-        k += 1;
+    let (events, _) = events.as_chunks::<4>();
+    for e in events {
+        rules::test_event(frames, processors, rules::event_at(e, 0))?;
     }
-    0
+    Ok(())
 }
 
-// The number under which the call is refused; 0 if it is not.
-fn list_refusal(
-    map: &[u64],
-    cr3s: &[u64],
-    events: &[u64],
-    words: usize,
-    work: usize,
-    outcomes: usize,
-    q: Question,
-) -> u64
-    ensures { (before : Lent) → length before.words ≡ words → length before.work ≡ work → length before.outcomes ≡ outcomes
-        → result ≡ list_refusal (asked map.now cr3s.now events.now q) before }
-{
-    if !sizes_fit(map.len(), cr3s.len(), events.len(), words, work, outcomes) {
-        return 1;
+// What the call was lent, as it is tested.
+#[derive(Clone, Copy)]
+struct Buffers<'a> {
+    map: &'a [u64],
+    words: &'a [u64],
+    cr3s: &'a [u64],
+    events: &'a [u64],
+    work: &'a [u8],
+    outcomes: &'a [u64],
+}
+
+impl Buffers<'_> {
+    fn fit(&self) -> bool
+        ensures { result ≡ sizes_fit (length self.now.map.now) (length self.now.cr3s.now) (length self.now.events.now) (length self.now.words.now) (length self.now.work.now) (length self.now.outcomes.now) }
+    {
+        let frames = self.map.len();
+        paging::is_between(1, 256, frames as u64)
+            && paging::is_between(1, 4, self.cr3s.len() as u64)
+            && self.events.len() % 4 == 0
+            && self.events.len() / 4 <= 4096
+            && self.words.len() == paging::FRAME_WORDS * frames
+            && self.work.len() >= 40 * frames
+            && self.outcomes.len() >= 2 * (frames + 3)
     }
-    if !paging::map_fits(map) {
-        return 2;
+
+    // Whether the question is answered; else why it is refused.
+    fn test(&self, q: Question) -> Result<(), Refusal>
+        ensures { refusal_of result ≡ list_refusal (asked self.now.map.now self.now.cr3s.now self.now.events.now q) (lent self.now.words.now self.now.work.now self.now.outcomes.now) }
+    {
+        let frames = self.map.len() as u64;
+        let processors = self.cr3s.len() as u64;
+        rules::unless(self.fit(), Refusal::WrongSizes)?;
+        rules::unless(paging::map_fits(self.map), Refusal::WrongMap)?;
+        rules::unless(paging::cr3s_fit(frames, self.cr3s), Refusal::NoFrame)?;
+        test_events(frames, processors, self.events)?;
+        // Kept: an event holds its kind as the buffers do, as document 01's number; 4 is an access.
+        let access = Event {
+            proc: q.proc,
+            kind: 4,
+            a: q.addr,
+            b: q.request,
+        };
+        rules::test_event(frames, processors, access)
     }
-    let frames = map.len() as u64;
-    let processors = cr3s.len() as u64;
-    if !paging::cr3s_fit(frames, cr3s) {
-        return 7;
-    }
-    let r = events_refusal(events, frames, processors);
-    if r != 0 {
-        return r;
-    }
-    let access = Event {
-        proc: q.proc,
-        kind: 4,
-        a: q.addr,
-        b: q.request,
-    };
-    rules::event_refusal(frames, processors, access)
 }
 
 // The work of an accepted call; the result is the count.
+// Kept: seven parameters, since three of the buffers are written: a struct of them needs a clause on each in every contract.
 fn answer(
     words: &mut [u64],
     work: &mut [u8],
@@ -371,20 +290,17 @@ fn answer(
     requires { Answerable frames words.old work.old outcomes.old events.now q start }
     ensures { Answers frames words.old work.old outcomes.old events.now q start result words.new work.new outcomes.new }
 {
-    let page = paging::page_of(q.addr);
-    held::restart(words, work, frames, page, 0, Guest(start));
-    replay(words, work, events, frames, q.proc, page, start);
-    collect(
-        words,
-        work,
-        outcomes,
+    let at = AskedPage {
         frames,
-        page,
-        paging::request_of(q.request),
-    )
+        page: paging::page_of(q.addr),
+    };
+    held::restart(words, work, at, 0, Guest(start));
+    replay(words, work, events, at, q.proc, start);
+    collect(words, work, outcomes, at, paging::request_of(q.request))
 }
 
 // Every permitted outcome of the question, in order; a refusal changes nothing.
+// Kept: seven parameters, as the C interface's flamecurl_list has them.
 pub fn list(
     map: &[u64],
     words: &mut [u64],
@@ -393,22 +309,19 @@ pub fn list(
     work: &mut [u8],
     outcomes: &mut [u64],
     q: Question,
-) -> Listed
+) -> Result<u64, Refusal>
     ensures { ListCall (asked map.now cr3s.now events.now q) (lent words.old work.old outcomes.old) result (lent words.new work.new outcomes.new) }
 {
-    let refusal = list_refusal(
+    let lent = Buffers {
         map,
+        words,
         cr3s,
         events,
-        words.len(),
-        work.len(),
-        outcomes.len(),
-        q,
-    );
-    if refusal != 0 {
-        return Listed::Refused(refusal);
-    }
-    let p = q.proc as usize;
+        work,
+        outcomes,
+    };
+    lent.test(q)?;
     let frames = map.len() as u64;
-    Listed::Count(answer(words, work, outcomes, events, frames, q, cr3s[p]))
+    let start = cr3s[q.proc as usize];
+    Ok(answer(words, work, outcomes, events, frames, q, start))
 }

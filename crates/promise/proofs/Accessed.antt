@@ -27,6 +27,7 @@ use Rattle.keeps.proofs.Alikes.{same_refl}
 use Rattle.keeps.proofs.RightStates.{Mapped}
 use Rattle.keeps.proofs.Moves.{page_small}
 use Rattle.keeps.proofs.Filled.{Fills}
+use Rattle.keeps.proofs.WalkReads.{whole_walk}
 use Rattle.keeps.proofs.Accesses.{walked, walked_over, written, walk_same, written_same, written_leads, written-right, filling, Way, slot, shadow, fault, lacks, again, ways}
 use Rattle.keeps.proofs.Again.{end_covers, end_frame, end_inside}
 use Rattle.promise.specs.Demand.{Fresh}
@@ -35,7 +36,7 @@ use Rattle.promise.proofs.Holds.{U, drops, seen, ends, Holds, Pathed, Slotted, s
 use Rattle.promise.proofs.Carries.{After, sized, fits, hp, still, kept-words}
 use Rattle.slots.specs.Slots.{slot_count, page_in}
 use Rattle.paging.proofs.Counts.{by_cases}
-use Rattle.shadow.specs.Answer.{Result}
+use Rattle.shadow.specs.Answer.{Reply}
 use Rattle.shadow.specs.Fill.{fill}
 use Rattle.shadow.specs.Access.{after_access}
 use Rattle.shadow.specs.Refusals.{call_refusal}
@@ -75,7 +76,7 @@ module _ (F : Fresh) (es : List Event) (k : ℕ) (s : State) (h : Holds F es k s
 
     ended_whole : {x : Ended} → Ends M.tables h.laid.sound (seen F es p v) M.frames v k rules law reads x → (last : Guest) (w : Walk) → x ≡ ended_at last w
         → Kept (seen F es p v) k w × (w.level ≡ 0)
-    ended_whole (whole {w = w'} held done) last w q = let e : w' ≡ w = cc in (rw e at held, rw e at done)
+    ended_whole (whole {w = w'} held done) last w q = let e : w' ≡ w = whole_walk q in (rw e at held, rw e at done)
     ended_whole (absent held gone) last w q = let n : ◌≡◌ {A = ℕ} 0 1 = cc in absurd (omega arith)
     ended_whole (beyond held gone) last w q = let n : ◌≡◌ {A = ℕ} 0 1 = cc in absurd (omega arith)
 
@@ -182,7 +183,7 @@ module _ (F : Fresh) (es : List Event) (k : ℕ) (s : State) (h : Holds F es k s
     fault_holds : After F es k s h ok (faulted M p page (walked_over M map p e.a e.b s))
     fault_holds = still F es k s h ok (λ x. omega arith) unended three (walked M map p e.a e.b s).words (walk_same M map p e.a e.b s h.laid.sound)
 
-    way : {out : Result} → Way M map p e.a e.b s out → After F es k s h ok out.state
+    way : {out : Reply} → Way M map p e.a e.b s out → After F es k s h ok out.state
     way (slot j hj v o) = rw o (still F es k s h ok (λ x. omega arith) unended three s.words (same_refl M.tables s.words))
     way (shadow x v o) = rw o (still F es k s h ok (λ x. omega arith) unended three s.words (same_refl M.tables s.words))
     way (fault base x o) = rw o fault_holds

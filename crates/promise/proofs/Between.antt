@@ -25,7 +25,7 @@ use Rattle.keeps.proofs.Events.{accepted_mapped, accepted_able, accepted_right, 
 use Rattle.promise.specs.Demand.{may_stand_between}
 use Rattle.paging.specs.Sound.{Laid}
 use Rattle.paging.proofs.Counts.{by_cases}
-use Rattle.shadow.specs.Answer.{Result}
+use Rattle.shadow.specs.Answer.{Reply}
 use Rattle.shadow.specs.Refusals.{call_refusal}
 use Rattle.shadow.specs.Moves.{after_begin, after_drop}
 
@@ -83,7 +83,7 @@ module _ (M : Machine) (map : List ℕ) (s : State) (e : Event) (laid : Laid M.t
   fault_serves : Serves M (faulted M e.proc (page_of M.tables e.a) (walked_over M map e.proc e.a e.b s)) p page q
   fault_serves = serves_by M p page q s _ refl sv
 
-  way : (e.proc ≡ p → ⊥) → {out : Result} → Way M map e.proc e.a e.b s out → Serves M out.state p page q
+  way : (e.proc ≡ p → ⊥) → {out : Reply} → Way M map e.proc e.a e.b s out → Serves M out.state p page q
   way ne (slot k h x o) = rw o sv
   way ne (shadow h x o) = rw o sv
   way ne (fault base x o) = rw o fault_serves
@@ -92,7 +92,7 @@ module _ (M : Machine) (map : List ℕ) (s : State) (e : Event) (laid : Laid M.t
       let f = filling_reshapes M map e.proc e.a e.b s sized spare fits by right last w x in
       rw o (apart _ f.trees ne f.others)
 
-  kept : T (may_stand_between p e) → {out : Result} → Kind M map s e out → Serves M out.state p page q
+  kept : T (may_stand_between p e) → {out : Reply} → Kind M map s e out → Serves M out.state p page q
   kept t (store x h o) = rw o (serves_by M p page q s _ refl sv)
   kept t (begin x h o) = rw o (serves_by M p page q s _ (unfold after_begin in refl) sv)
   kept t (drop x h o) = rw o (serves_by M p page q s _ (unfold after_drop in refl) sv)

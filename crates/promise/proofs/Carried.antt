@@ -13,12 +13,12 @@ use Rattle.promise.proofs.Holds.{Holds}
 use Rattle.promise.proofs.Carries.{After, stored, invalidated, written, begun, lost}
 use Rattle.promise.proofs.Extended.{extended}
 use Rattle.promise.proofs.Accessed.{accessed}
-use Rattle.shadow.specs.Answer.{Result}
+use Rattle.shadow.specs.Answer.{Reply}
 use Rattle.shadow.specs.Refusals.{call_refusal}
 
 module _ (F : Fresh) (es : List Event) (k : ℕ) (s : State) (h : Holds F es k s)
     (ok : call_refusal F.machine F.map s (event_at es k) ≡ 0) where
-  by_kind : {out : Result} → Kind F.machine F.map s (event_at es k) out → After F es k s h ok out.state
+  by_kind : {out : Reply} → Kind F.machine F.map s (event_at es k) out → After F es k s h ok out.state
   by_kind (store q b o) = rw o (stored F es k s h ok q)
   by_kind (invlpg q o) = rw o (invalidated F es k s h ok q)
   by_kind (cr3 q b o) = rw o (written F es k s h ok q b)

@@ -8,6 +8,7 @@ use native.Mathlib.Omega.{arith}
 use lib.Dec.{eqb, ltb}
 use lib.ListN.{length, get_or}
 use borrow.Author.Tests.{eqb-true, ltb-true}
+use Rattle.std.specs.Prelude.{Result, Ok, map}
 use Rattle.paging.specs.Layout.{tables64}
 use Rattle.paging.specs.Numbers.{all, each}
 use Rattle.paging.proofs.Numbers.{all-at, tab-at}
@@ -28,7 +29,7 @@ use Rattle.promise.proofs.Lossless.{none_lost}
 use Rattle.promise.proofs.Started.{accepted}
 use Rattle.promise.proofs.Theorems.{demand_three}
 use Rattle.paging.specs.Sound.{Laid}
-use Rattle.shadow.specs.Answer.{Result}
+use Rattle.shadow.specs.Answer.{Reply}
 use Rattle.shadow.specs.Refusals.{ranges_fit, lengths_fit, pool_fits, in_pool, frames_fit, setup_refusal}
 use Rattle.shadow.specs.Setup.{rooted}
 use Rattle.keeps.proofs.Events as events
@@ -83,13 +84,13 @@ module _ (n : KnownRun) where
       quick_state : (k : ℕ) → k ≤ length n.events → state_at F (run_of n) k ≡ state_by (quickly n) n.events (D.begun F) k
       unfolding state_at state_by
       quick_state zero h = refl
-      quick_state (suc k) h = ap (λ (x : Result). x.state) (quick k (omega arith) _ (quick_state k (omega arith)))
+      quick_state (suc k) h = ap (λ (x : Reply). x.state) (quick k (omega arith) _ (quick_state k (omega arith)))
 
       -- A KNOWN RUN ANSWERS WHAT ITS TABLE SAYS
       pub answers : Quick n → Answers n
       answers e =
           tab-same (length n.events) (answer_at F (run_of n)) (λ k. (quickly n (event_at n.events k) (state_by (quickly n) n.events (D.begun F) k)).answer)
-          (λ k h. ap (λ (x : Result). x.answer) (quick k h _ (quick_state k (omega arith))))
+          (λ k h. ap (λ (x : Reply). x.answer) (quick k h _ (quick_state k (omega arith))))
           ∙ answers_by_lem (quickly n) n.events (D.begun F) ∙ e
 
 stored-fits : run_fits stored ≡ true
@@ -122,20 +123,20 @@ runs-answer = (
 
 -- ---- BOTH BRANCHES OF DEMAND 3: the first access is to be put again and settles then, the fourth event settles at once
 
-answer : (k : ℕ) → k < 7 → answer_at stored.machine (run_of stored) k ≡ get_or stored.answers k Done
+answer : (k : ℕ) → k < 7 → answer_at stored.machine (run_of stored) k ≡ get_or (map Ok stored.answers) k (Ok Done)
 unfolding stored
-answer k h = sym (tab-at 7 (answer_at stored.machine (run_of stored)) k Done h) ∙ ap (λ (l : List Answer). get_or l k Done) runs-answer.0
+answer k h = sym (tab-at 7 (answer_at stored.machine (run_of stored)) k (Ok Done) h) ∙ ap (λ (l : List (Result Answer ℕ)). get_or l k (Ok Done)) runs-answer.0
 
-first_again : answer_at stored.machine (run_of stored) 0 ≡ Again
+first_again : answer_at stored.machine (run_of stored) 0 ≡ Ok Again
 unfolding stored
 first_again = answer 0 (omega arith)
 
-fourth_address : answer_at stored.machine (run_of stored) 3 ≡ Address 425992
+fourth_address : answer_at stored.machine (run_of stored) 3 ≡ Ok (Address 425992)
 unfolding stored
 fourth_address = answer 3 (omega arith)
 
 -- "again" says no outcome
-no_outcome : {F : Fresh} {r : Run} {a : ℕ} {x : Answer} {o : Outcome} → Says F r a x o → x ≡ Again → ⊥
+no_outcome : {F : Fresh} {r : Run} {a : ℕ} {x : Result Answer ℕ} {o : Outcome} → Says F r a x o → x ≡ Ok Again → ⊥
 no_outcome (place inside) e = let n : ◌≡◌ {A = ℕ} 0 1 = cc in omega arith
 no_outcome code e = let n : ◌≡◌ {A = ℕ} 0 1 = cc in omega arith
 
@@ -153,4 +154,4 @@ settles_at_once = go (demand_three tables64 laid64 stored.machine refl (known_se
   where
     go : SettlesInTwo stored.machine (run_of stored) 3 → Settles stored.machine (run_of stored) 3
     go (inl s) = s
-    go (inr t) = let q : Again ≡ Address 425992 = sym t.0 ∙ fourth_address in let n : ◌≡◌ {A = ℕ} 0 1 = cc in absurd (omega arith)
+    go (inr t) = let q : Ok Again ≡ Ok (Address 425992) = sym t.0 ∙ fourth_address in let n : ◌≡◌ {A = ℕ} 0 1 = cc in absurd (omega arith)

@@ -3,6 +3,7 @@ use mathlib.Core.Path.{◌≡◌, refl, ap, ◌∙◌}
 use mathlib.Core.List.{List, [], ◌∷◌}
 use Prim.Native.Nat.{ℕ, zero, suc}
 use lib.ListN.{length}
+use Rattle.std.specs.Prelude.{Result, Ok, map}
 use Rattle.paging.specs.Numbers.{each, tab, first_from, sum}
 use Rattle.paging.specs.Frame.{origin_from}
 use Rattle.paging.specs.Layout.{get, put, index, page_of, frame_of, rights_of, compose, is_present, with_bit}
@@ -21,7 +22,7 @@ use Rattle.promise.specs.Demand.{done_by}
 use Rattle.promise.specs.Known.{KnownRun, stored, narrowed, beside, slotted, crowded, written}
 use Rattle.slots.specs.Slots.{serving_slot, flush, flushed}
 use Rattle.guest.specs.GuestWalk.{walk_from, dirtied}
-use Rattle.shadow.specs.Answer.{Result}
+use Rattle.shadow.specs.Answer.{Reply}
 use Rattle.shadow.specs.Moves.{decode, leaf_cleared, after_invlpg}
 use Rattle.shadow.specs.Fill.{fill}
 use Rattle.shadow.specs.Access.{after_miss, after_access}
@@ -30,12 +31,12 @@ use Rattle.promise.specs.Demand as D
 
 -- ---- one event after the other, each once
 
-module _ (act : Event → State → Result) where
+module _ (act : Event → State → Reply) where
   unfoldable pub state_by : List Event → State → ℕ → State
   state_by es s zero = s
   state_by es s (suc k) = (act (event_at es k) (state_by es s k)).state
 
-  unfoldable pub answers_by : List Event → State → List Answer
+  unfoldable pub answers_by : List Event → State → List (Result Answer ℕ)
   answers_by [] s = []
   answers_by (e ∷ es) s = let x = act e s in x.answer ∷ answers_by es x.state
 
@@ -48,7 +49,7 @@ module _ (act : Event → State → Result) where
   unfolding tab answers_by state_by
   answers_by_lem [] s = refl
   answers_by_lem (e ∷ es) s =
-      ap (λ (l : List Answer). (act e s).answer ∷ l)
+      ap (λ (l : List (Result Answer ℕ)). (act e s).answer ∷ l)
       (tab-same (length es) (λ k. (act (event_at es k) (state_by (e ∷ es) s (suc k))).answer) (λ k. (act (event_at es k) (state_by es (act e s).state k)).answer)
       (λ k h. ap (λ (t : State). (act (event_at es k) t).answer) (state_later e es s k))
       ∙ answers_by_lem es (act e s).state)
@@ -56,14 +57,14 @@ module _ (act : Event → State → Result) where
 -- ---- known runs
 
 -- what an accepted event does
-abbrev pub acts : Machine → List ℕ → State → Event → Result
+abbrev pub acts : Machine → List ℕ → State → Event → Reply
 acts M map s e = moved M map e.proc (decode e) s
 
-abbrev pub quickly : KnownRun → Event → State → Result
+abbrev pub quickly : KnownRun → Event → State → Reply
 quickly n e s = done_by acts n.machine e s
 
 abbrev pub Quick : KnownRun → Type 0
-Quick n = answers_by (quickly n) n.events (D.begun n.machine) ≡ n.answers
+Quick n = answers_by (quickly n) n.events (D.begun n.machine) ≡ map Ok n.answers
 
 pub stored_quick : Quick stored
 unfolding stored answers_by moved each after_access after_miss after_invlpg after_begin place_below after_extend after_drop fill settle build free_table owner_of empty_share empty_slots zeroed named get put index page_of frame_of rights_of compose is_present meet descend serving_slot first_from flush flushed walk_from step request_of enough dirtied leaf_of leaf_cleared free_count taken sum with_bit rooted origin_from

@@ -8,6 +8,7 @@ use native.Mathlib.Omega.{arith}
 use lib.Dec.{eqb}
 use lib.ListN.{length}
 use borrow.Author.Tests.{eqb-true}
+use Rattle.std.specs.Prelude.{Ok}
 use Rattle.paging.specs.declared.Guest.{Guest}
 use Rattle.paging.specs.declared.Request.{Request}
 use Rattle.paging.specs.Frame.{guest, host, host_of, host_address}
@@ -42,7 +43,7 @@ use Rattle.paging.specs.declared.Stop.TheVariants.{Absent, Beyond}
 use Rattle.paging.specs.Walk.{base_of}
 use Rattle.guest.specs.GuestWalk.{Ended}
 use Rattle.slots.specs.Slots.{slot_count, mark_of, page_in, place_in, rights_in, slot_serves}
-use Rattle.shadow.specs.Answer.{Result}
+use Rattle.shadow.specs.Answer.{Reply}
 use Rattle.promise.specs.Demand as D
 
 module _ (F : Fresh) (laid : Laid F.machine.tables) (fresh : D.SetupFits F) (r : Run) (fit : Fit (guest_of F) r.events) (k : ℕ) (hk : k < length r.events) where
@@ -77,8 +78,8 @@ module _ (F : Fresh) (laid : Laid F.machine.tables) (fresh : D.SetupFits F) (r :
   abbrev lawful : Coherent view M.tables.levels M.frames
   lawful = law F r.events k s h p hp e.a e.b
 
-  answer_of_lem : {out : Result} → does F r k s ≡ out → answer_at F r k ≡ out.answer
-  answer_of_lem o = ap (λ (y : Result). y.answer) o
+  answer_of_lem : {out : Reply} → does F r k s ≡ out → answer_at F r k ≡ out.answer
+  answer_of_lem o = ap (λ (y : Reply). y.answer) o
 
   -- what is permitted stands in the list
   stands : {o : Outcome} → Says F r e.a (answer_at F r k) o → Permitted view q k o → Settles F r k
@@ -94,7 +95,7 @@ module _ (F : Fresh) (laid : Laid F.machine.tables) (fresh : D.SetupFits F) (r :
 
   -- an address, from a held walk behind it
   answered : (g : Guest) (rights : ℕ) → g.0 < M.frames → Backed view k g rights → q.needs < 8 → enough q rights ≡ true
-      → answer_at F r k ≡ Address (host_address (host_of F.map g) e.a) → Settles F r k
+      → answer_at F r k ≡ Ok (Address (host_address (host_of F.map g) e.a)) → Settles F r k
   answered g rights inside b small good o =
       stands (rw o (place inside))
       (address_permitted view lawful q k g rights small b good)
@@ -107,7 +108,7 @@ module _ (F : Fresh) (laid : Laid F.machine.tables) (fresh : D.SetupFits F) (r :
       (eqb-true (mark_of s.slots p j) 1 mark, eqb-true (page_in s.slots p j) v page, good)
 
   by_slot : q.needs < 8 → (j : ℕ) → j < slot_count → slot_serves s.slots p v q j ≡ true
-      → answer_at F r k ≡ Address (host_address (host_of F.map (guest (place_in s.slots p j))) e.a) → Settles F r k
+      → answer_at F r k ≡ Ok (Address (host_address (host_of F.map (guest (place_in s.slots p j))) e.a)) → Settles F r k
   by_slot small j hj t o =
       let (mark, page, good) = slot_tests j t in
       answered (guest (place_in s.slots p j)) (rights_in s.slots p j)
@@ -117,7 +118,7 @@ module _ (F : Fresh) (laid : Laid F.machine.tables) (fresh : D.SetupFits F) (r :
 
   -- a fault of the guest's walk
   by_fault : {x : Ended} → Ends M.tables h.laid.sound view M.frames v k (rules F r.events k s h p hp e.a e.b) lawful (reads F r.events k s h p hp e.a e.b) x
-      → (stop : Stop) → x ≡ Err stop → answer_at F r k ≡ Faulted (base_of stop + q.adds) → Settles F r k
+      → (stop : Stop) → x ≡ Err stop → answer_at F r k ≡ Ok (Faulted (base_of stop + q.adds)) → Settles F r k
   by_fault (whole held done) stop x o = let n : ◌≡◌ {A = ℕ} 0 1 = cc in absurd (omega arith)
   by_fault (absent {w = w} held gone) stop x o =
       let y : stop ≡ Absent = cc in
@@ -126,12 +127,12 @@ module _ (F : Fresh) (laid : Laid F.machine.tables) (fresh : D.SetupFits F) (r :
       let y : stop ≡ Beyond = cc in
       stands (rw o (rw y code)) (beyond_permitted view lawful q k w held gone)
 
-  way : q.needs < 8 → Way M F.map p e.a e.b s (after M F.map s e) → (answer_at F r k ≡ Again) ⊎ Settles F r k
+  way : q.needs < 8 → Way M F.map p e.a e.b s (after M F.map s e) → (answer_at F r k ≡ Ok Again) ⊎ Settles F r k
   way small (again last w x good o) = inl (answer_of_lem o)
   way small (slot j hj t o) = inr (by_slot small j hj t (answer_of_lem o))
   way small (shadow here good o) =
       let b = (h.paths p hp v (page_small M.tables e.a)).full here in
-      inr (answered b.frame _ b.inside b.backed small good (answer_of_lem o ∙ ap (λ (f : ℕ). Address (host_address (host f) e.a)) b.mapped))
+      inr (answered b.frame _ b.inside b.backed small good (answer_of_lem o ∙ ap (λ (f : ℕ). Ok (Address (host_address (host f) e.a))) b.mapped))
   way small (faulted base x o) = inr (by_fault (walk_ends F r.events k s h p hp e.a e.b) base x (answer_of_lem o))
   way small (lacks last w x bad o) =
       let held = walk_held F r.events k s h p hp e.a e.b last w x in
@@ -139,10 +140,10 @@ module _ (F : Fresh) (laid : Laid F.machine.tables) (fresh : D.SetupFits F) (r :
       (lacking_permitted view lawful q k w held.0 held.1 bad))
 
   -- SOUND
-  pub sound : e.kind ≡ 4 → (answer_at F r k ≡ Again) ⊎ Settles F r k
+  pub sound : e.kind ≡ 4 → (answer_at F r k ≡ Ok Again) ⊎ Settles F r k
   sound four = go (kinds M F.map s e (accepted F laid fresh r fit k hk))
     where
-      go : Kind M F.map s e (after M F.map s e) → (answer_at F r k ≡ Again) ⊎ Settles F r k
+      go : Kind M F.map s e (after M F.map s e) → (answer_at F r k ≡ Ok Again) ⊎ Settles F r k
       go (access x hb o) = way (needs_small M.tables e.b hb) (subst (Way M F.map p e.a e.b s) (sym o) (ways M F.map p e.a e.b s))
       go (store x hb o) = absurd (omega arith)
       go (invlpg x o) = absurd (omega arith)

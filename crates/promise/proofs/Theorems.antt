@@ -6,6 +6,7 @@ use native.Mathlib.Decide.{ℕ_discrete}
 use native.Mathlib.Omega.{arith}
 use lib.Dec.{T, eqb→eq}
 use lib.ListN.{length}
+use Rattle.std.specs.Prelude.{Ok}
 use Rattle.paging.specs.Layout.{Layout, page_of}
 use Rattle.paging.specs.Request.{request_of}
 use Rattle.rules.specs.declared.Event.{Event}
@@ -44,7 +45,7 @@ module _ (F : Fresh) (laid : Laid F.machine.tables) (fresh : D.SetupFits F) (r :
   before-serves m sv = serves_by F.machine e.proc (page_of F.machine.tables e.a) (request_of F.machine.tables e.b) (state_at F r m) (before F r m) (unfold losing in refl) sv
 
   -- after "again" the path serves as long as only what may stand between happens
-  serves : answer_at F r k ≡ Again → (m : ℕ) → k < m → m ≤ length r.events
+  serves : answer_at F r k ≡ Ok Again → (m : ℕ) → k < m → m ≤ length r.events
       → ((j : ℕ) → k < j → j < m → T (may_stand_between e.proc (event_at r.events j))) → At (state_at F r m)
   unfolding state_at
   serves again zero lo hi between = absurd (omega arith)
@@ -58,7 +59,7 @@ module _ (F : Fresh) (laid : Laid F.machine.tables) (fresh : D.SetupFits F) (r :
           (before-serves m (more (omega arith) (omega arith) (λ j a b. between j a (omega arith)))) (between m (omega arith) (omega arith))
 
   -- the second put
-  second : e.kind ≡ 4 → answer_at F r k ≡ Again → (m : ℕ) → k < m → m < length r.events → event_at r.events m ≡ e
+  second : e.kind ≡ 4 → answer_at F r k ≡ Ok Again → (m : ℕ) → k < m → m < length r.events → event_at r.events m ≡ e
       → ((j : ℕ) → k < j → j < m → T (may_stand_between e.proc (event_at r.events j))) → Settles F r m
   second four again m lo hi same between =
       let sv : Serves F.machine (before F r m) (event_at r.events m).proc (page_of F.machine.tables (event_at r.events m).a) (request_of F.machine.tables (event_at r.events m).b) =
@@ -67,7 +68,7 @@ module _ (F : Fresh) (laid : Laid F.machine.tables) (fresh : D.SetupFits F) (r :
       let kind : (event_at r.events m).kind ≡ 4 = ap (λ (x : Event). x.kind) same ∙ four in
       let (value, address) = served_address F.machine F.map (before F r m) (event_at r.events m) (accepted F laid fresh r fit m hi) kind sv in
       by_cases (sound F laid fresh r fit m hi kind)
-      (λ x. let q : Again ≡ Address value = sym x ∙ address in let n : ◌≡◌ {A = ℕ} 0 1 = cc in absurd (omega arith))
+      (λ x. let q : Ok Again ≡ Ok (Address value) = sym x ∙ address in let n : ◌≡◌ {A = ℕ} 0 1 = cc in absurd (omega arith))
       (λ x. x)
 
 -- AN ACCESS PUT AT MOST TWICE ENDS IN AN ADDRESS OR A GUEST FAULT THAT STANDS IN THE LIST FOR THE EVENTS BEFORE THAT PUT

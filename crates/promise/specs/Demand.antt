@@ -1,7 +1,7 @@
 -- Demand 3, stated over moments: the machine's run and the rules' history are read off one list of events.
 -- "From a fresh machine, after any accepted events, an access put at most twice ends in an address or a guest fault that
 -- stands in the list for the events before that put."
-use Rattle.std.specs.Prelude.{◌≡◌, ◌⊎◌, Bool, cond, not, ◌||◌, ℕ, zero, suc, ◌*◌, ◌<◌, T, length, take}
+use Rattle.std.specs.Prelude.{◌≡◌, ◌⊎◌, Result, Ok, Err, Bool, cond, not, ◌||◌, ℕ, zero, suc, ◌*◌, ◌<◌, T, length, take}
 use mathlib.Core.List.{List, Memᴰ}
 use Rattle.paging.specs.declared.Guest.{Guest}
 use Rattle.paging.specs.Numbers.{each}
@@ -15,10 +15,10 @@ use Rattle.rules.specs.History.{Setup, Fit, is_store, is_access, is_begin, is_ex
 use Rattle.rules.specs.Outcome.{RightAt}
 use Rattle.tables.specs.State.{Machine, State, state_of}
 use Rattle.shadow.specs.declared.Answer.{Answer}
-use Rattle.shadow.specs.declared.Answer.TheVariants.{Address, Fault, Again, Refused}
+use Rattle.shadow.specs.declared.Answer.TheVariants.{Address, Fault, Again}
 use Rattle.shadow.specs.After.{after}
 use Rattle.slots.specs.Slots.{slot_count, emptied}
-use Rattle.shadow.specs.Answer.{Result}
+use Rattle.shadow.specs.Answer.{Reply}
 use Rattle.shadow.specs.Setup.{started}
 use Rattle.shadow.specs.Refusals.{setup_refusal}
 
@@ -68,12 +68,12 @@ may_stand_between p e = not (is_by p e) || (is_store e || (is_begin e || (is_ext
 
 -- What the machine does with an event is what the event call gives. The call is `after`; known runs are computed with its
 -- moves alone, without the tests that they pass.
-abbrev pub done_by : (Machine → List ℕ → State → Event → Result) → Fresh → Event → State → Result
+abbrev pub done_by : (Machine → List ℕ → State → Event → Reply) → Fresh → Event → State → Reply
 done_by call F e s = call F.machine F.map s e
 
 module _ (F : Fresh) (r : Run) where
   -- what it does with event k + 1
-  abbrev pub does : ℕ → State → Result
+  abbrev pub does : ℕ → State → Reply
   does k s = done_by after F (event_at r.events k) s
 
   -- the state at moment k, and after the losses of that moment
@@ -84,7 +84,7 @@ module _ (F : Fresh) (r : Run) where
   abbrev pub before : ℕ → State
   before k = losing F.machine (r.lost k) (state_at k)
 
-  abbrev pub answer_at : ℕ → Answer
+  abbrev pub answer_at : ℕ → Result Answer ℕ
   answer_at k = (does k (before k)).answer
 
   -- event k + 1 as a question
@@ -92,9 +92,9 @@ module _ (F : Fresh) (r : Run) where
   question_at k = let e = event_at r.events k in record { proc = e.proc; addr = e.a; request = e.b }
 
   -- an answer to an access to a says an outcome: an address in the host frame of a guest frame, or a fault's code
-  pub data Says (a : ℕ) : Answer → Outcome → Type 0 where
-    place : {g : Guest} → g.0 < F.machine.frames → Says a (Address (host_address (host_of F.map g) a)) (address g)
-    code : {c : ℕ} → Says a (Fault c) (fault c)
+  pub data Says (a : ℕ) : Result Answer ℕ → Outcome → Type 0 where
+    place : {g : Guest} → g.0 < F.machine.frames → Says a (Ok (Address (host_address (host_of F.map g) a))) (address g)
+    code : {c : ℕ} → Says a (Ok (Fault c)) (fault c)
 
   -- the put at moment k ends in an outcome that stands in the list for the events before it
   pub record Settles (k : ℕ) : Type 0 where
@@ -108,14 +108,14 @@ module _ (F : Fresh) (r : Run) where
   abbrev pub SettlesInTwo : ℕ → Type 0
   SettlesInTwo k =
       Settles k
-      ⊎ ((answer_at k ≡ Again)
+      ⊎ ((answer_at k ≡ Ok Again)
       × ((m : ℕ) → k < m → m < length r.events → event_at r.events m ≡ event_at r.events k
       → ((j : ℕ) → k < j → j < m → T (may_stand_between (event_at r.events k).proc (event_at r.events j))) → Settles m))
 
 -- EVERY EVENT THAT FITS IS TAKEN: acceptance is about ranges, never about the machine's own answers. Here and in demand 3
 -- for all machines with tables of one layout.
 abbrev pub Accepts : Layout → Type 0
-Accepts Y = (F : Fresh) → F.machine.tables ≡ Y → SetupFits F → (r : Run) → Fit (guest_of F) r.events → (k : ℕ) → k < length r.events → (n : ℕ) → answer_at F r k ≡ Refused n → ⊥
+Accepts Y = (F : Fresh) → F.machine.tables ≡ Y → SetupFits F → (r : Run) → Fit (guest_of F) r.events → (k : ℕ) → k < length r.events → (n : ℕ) → answer_at F r k ≡ Err n → ⊥
 
 -- DEMAND 3
 abbrev pub Demand : Layout → Type 0

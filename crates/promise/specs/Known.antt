@@ -1,5 +1,5 @@
 -- "Known puzzles": the run of document 01, and runs that it does not see, as one table.
-use Rattle.std.specs.Prelude.{◌≡◌, false, List, [], ◌∷◌, ℕ, ◌+◌, ◌^◌, length, set, replicate}
+use Rattle.std.specs.Prelude.{◌≡◌, Ok, false, List, [], ◌∷◌, ℕ, ◌+◌, ◌^◌, map, length, set, replicate}
 use Rattle.paging.specs.Numbers.{tab}
 use Rattle.rules.specs.declared.Event.{Event}
 use Rattle.tables.specs.State.{machine64}
@@ -19,7 +19,7 @@ run_of n = record { events = n.events; lost = λ k p j. false }
 
 -- A KNOWN RUN ANSWERS WHAT ITS TABLE SAYS
 abbrev pub Answers : KnownRun → Type 0
-Answers n = tab (length n.events) (answer_at n.machine (run_of n)) ≡ n.answers
+Answers n = tab (length n.events) (answer_at n.machine (run_of n)) ≡ map Ok n.answers
 
 abbrev pub AllAnswer : List KnownRun → Type 0
 AllAnswer [] = Unit {0}

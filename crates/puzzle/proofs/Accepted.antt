@@ -3,7 +3,6 @@ use mathlib.Core.Path.{◌≡◌, subst}
 use mathlib.Core.Bool.{Bool, true, false, cond}
 use mathlib.Core.List.{List}
 use Prim.Native.Nat.{ℕ}
-use native.Mathlib.Omega.{arith}
 use lib.Dec.{eqb}
 use lib.ListN.{length}
 use Rattle.cursor.specs.Text.{line_at, past_blanks}
@@ -16,7 +15,7 @@ use Rattle.puzzle.proofs.Chain.{from_cr3s, from_words, from_events, from_questio
 
 ended_if : (b : Bool) (z : Puzzle) (n line : ℕ) {y : Puzzle} {at : ℕ} → cond b (got z n) (refused 10 line) ≡ got y at → z ≡ y
 ended_if true z n line e = cc
-ended_if false z n line e = let z : ◌≡◌ {A = ℕ} 0 1 = cc in absurd (omega arith)
+ended_if false z n line e = cc
 
 ended_same : (z : Puzzle) (text : List ℕ) (at : ℕ) {y : Puzzle} {to : ℕ} → ended z text at ≡ got y to → z ≡ y
 unfolding ended

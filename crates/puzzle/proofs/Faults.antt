@@ -6,8 +6,9 @@ use mathlib.Core.List.{List, [], ◌∷◌, ◌++◌}
 use Prim.Native.Nat.{ℕ, zero, suc, ◌*◌}
 use lib.Dec.{eqb}
 use lib.ListN.{length}
-use Rattle.cursor.specs.declared.Next.{Next}
-use Rattle.cursor.specs.declared.Next.TheVariants.{Number, Bad}
+use Rattle.std.specs.Prelude.{Result, Ok, Err}
+use Rattle.cursor.specs.declared.NoNumber.{NoNumber}
+use Rattle.cursor.specs.declared.Number.{Number}
 use Rattle.cursor.specs.Text.{line_at, past_blanks, next_at}
 use Rattle.sections.specs.declared.Section.{Section}
 use Rattle.sections.specs.declared.Section.TheVariants.{Map, Cr3s, Words, Events, Questions}
@@ -26,11 +27,11 @@ one : (fits : ℕ → Bool) (text : List ℕ) (at : ℕ) → TenOrEleven (due fi
 unfolding due
 one fits text at = go (next_at text at)
   where
-    go : (n : Next) → TenOrEleven (judged fits (line_at text (past_blanks text at)) n)
-    go (Bad c) = inl refl
-    go (Number v c) = either (fits v)
+    go : (r : Result Number NoNumber) → TenOrEleven (judged fits (line_at text (past_blanks text at)) r)
+    go (Err none) = inl refl
+    go (Ok n) = either (fits n.value)
       where
-        either : (b : Bool) → TenOrEleven (cond b (got v c.at) (refused 11 (line_at text (past_blanks text at))))
+        either : (b : Bool) → TenOrEleven (cond b (got n.value n.after.at) (refused 11 (line_at text (past_blanks text at))))
         either true = tt
         either false = inr refl
 

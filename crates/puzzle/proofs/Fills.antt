@@ -1,16 +1,16 @@
 -- What the buffers hold after a puzzle has been laid into them.
 use mathlib.Core.Path.{◌≡◌, refl, sym, ap, ap₂, ◌∙◌, subst, subst⁻¹}
 use mathlib.Core.List.{List, [], ◌∷◌, ◌++◌}
-use Prim.Native.Nat.{ℕ, suc, ◌+◌, ◌*◌, ◌/◌, ◌≤◌, ◌<◌}
-use native.Mathlib.Numerals.{add-one}
+use Prim.Native.Nat.{ℕ, suc, ◌*◌, ◌/◌, ◌≤◌, ◌<◌}
 use native.Mathlib.Omega.{arith}
-use lib.ListN.{length, take, drop, get_or, set, length-set, take-append-drop, drop_of_length-le}
-use lib.Seq.{drop-cons, get_or-take, length-take-le, set-append_left}
-use Rattle.puzzle.specs.declared.ReadResult.{ReadResult}
-use Rattle.puzzle.specs.declared.ReadResult.TheVariants.{Accepted, Refused}
+use lib.ListN.{length, take, drop, get_or, set, replicate, length-set, length-replicate, take-append-drop}
+use lib.Seq.{length-take-le, set-append_left}
+use Rattle.std.specs.Prelude.{Result, Ok, Err}
+use Rattle.puzzle.specs.declared.Counts.{Counts}
+use Rattle.sections.specs.declared.TextFault.{TextFault}
 use Rattle.sections.specs.Sections.{Puzzle, puzzle_of}
 use Rattle.sections.specs.PartsCode.{Kept}
-use Rattle.puzzle.specs.Buffers.{with_pairs, laid, counts_of, verdict_of}
+use Rattle.puzzle.specs.Buffers.{with_pairs, laid, result_of, counts_of, verdict_of}
 use Rattle.puzzle.specs.PartsCode.{WordsBelow, fronts, Whole, SectionsAre}
 
 -- ---- the front of a list
@@ -18,6 +18,12 @@ use Rattle.puzzle.specs.PartsCode.{WordsBelow, fronts, Whole, SectionsAre}
 pub laid_by : (new l old : List ℕ) → take (length new) l ≡ new → drop (length new) l ≡ drop (length new) old → l ≡ laid new old
 unfolding laid
 laid_by new l old t d = sym (take-append-drop (length new) l) ∙ ap₂ (λ (a b : List ℕ). a ++ b) t d
+
+-- the front set to 0
+pub zeros-laid : (n : ℕ) (old front : List ℕ) → n ≤ length old → front ≡ replicate (length (take n old)) 0 → front ++ drop n old ≡ laid (replicate n 0) old
+unfolding laid
+zeros-laid n old front h e =
+    ap₂ (λ (a b : List ℕ). a ++ b) (e ∙ ap (λ (k : ℕ). replicate k 0) (length-take-le n old h)) (ap (λ (k : ℕ). drop k old) (sym (length-replicate n 0)))
 
 -- a buffer with n new elements in front
 pub kept-laid : {old new : List ℕ} {n : ℕ} → Kept old new n → new ≡ laid (take n new) old
@@ -27,29 +33,6 @@ kept-laid {old} {new} {n} k =
     (ap (λ (i : ℕ). drop i new) e ∙ k.stays ∙ ap (λ (i : ℕ). drop i old) (sym e))
 
 -- ---- pairs of word and value
-
-left : (l : List ℕ) (n i : ℕ) → n ≤ length l → i < n → drop i (take n l) ≡ get_or l i 0 ∷ drop (i + 1) (take n l)
-left l n i h k =
-    let m = length-take-le n l h in
-    drop-cons (take n l) i 0 (omega arith) ∙ ap₂ (λ (x j : ℕ). x ∷ drop j (take n l)) (get_or-take n l i 0 k) (sym (add-one i))
-
-module _ (l : List ℕ) (n i : ℕ) (h : n * 2 ≤ length l) where
-  pub pair_more : (words : List ℕ) → i < n
-      → with_pairs (drop ((i + 1) * 2) (take (n * 2) l)) (set words (get_or l (i * 2) 0) (get_or l (i * 2 + 1) 0)) ≡ with_pairs (drop (i * 2) (take (n * 2) l)) words
-  unfolding with_pairs
-  pair_more words k =
-      let e : i * 2 + 1 + 1 ≡ (i + 1) * 2 = omega arith in
-      let d : drop (i * 2) (take (n * 2) l) ≡ get_or l (i * 2) 0 ∷ get_or l (i * 2 + 1) 0 ∷ drop ((i + 1) * 2) (take (n * 2) l) =
-      left l (n * 2) (i * 2) h (omega arith)
-      ∙ ap (λ (m : List ℕ). get_or l (i * 2) 0 ∷ m) (left l (n * 2) (i * 2 + 1) h (omega arith) ∙ ap (λ (j : ℕ). get_or l (i * 2 + 1) 0 ∷ drop j (take (n * 2) l)) e) in
-      sym (ap (λ (m : List ℕ). with_pairs m words) d)
-
-  pub pair_end : (words : List ℕ) → n ≤ i → words ≡ with_pairs (drop (i * 2) (take (n * 2) l)) words
-  unfolding with_pairs
-  pair_end words k =
-      let m = length-take-le (n * 2) l h in
-      let e : length (take (n * 2) l) ≤ i * 2 = omega arith in
-      sym (ap (λ (m : List ℕ). with_pairs m words) (drop_of_length-le (take (n * 2) l) e))
 
 pub length-stored : (pairs words : List ℕ) → length (with_pairs pairs words) ≡ length words
 unfolding with_pairs
@@ -61,6 +44,29 @@ below_set : (w v : ℕ) (words ps : List ℕ) (i : ℕ) → get_or (w ∷ v ∷ 
 below_set w v words ps i h =
     let e : suc i * 2 ≡ suc (suc (i * 2)) = omega arith in
     subst⁻¹ (λ (n : ℕ). get_or ps (i * 2) 0 < n) (length-set words w v) (subst (λ (n : ℕ). get_or (w ∷ v ∷ ps) n 0 < length words) e h)
+
+-- a pair further: what is left, and the words so far
+is_pair : (pair : List ℕ) → length pair ≡ 2 → pair ≡ get_or pair 0 0 ∷ get_or pair 1 0 ∷ []
+is_pair [] two = absurd (omega arith)
+is_pair (w ∷ []) two = absurd (omega arith)
+is_pair (w ∷ v ∷ []) two = refl
+is_pair (w ∷ v ∷ x ∷ xs) two = absurd (omega arith)
+
+module _ (pair rest words : List ℕ) (two : length pair ≡ 2) where
+  pub pair_more : with_pairs rest (set words (get_or pair 0 0) (get_or pair 1 0)) ≡ with_pairs (pair ++ rest) words
+  unfolding with_pairs
+  pair_more = sym (ap (λ (p : List ℕ). with_pairs (p ++ rest) words) (is_pair pair two))
+
+  pub pair_below : WordsBelow (length words) (pair ++ rest) → WordsBelow (length (set words (get_or pair 0 0) (get_or pair 1 0))) rest
+  pair_below b =
+      let all = subst (λ (p : List ℕ). WordsBelow (length words) (p ++ rest)) (is_pair pair two) b in
+      λ i h. below_set (get_or pair 0 0) (get_or pair 1 0) words rest i (all (suc i) (omega arith))
+
+pub pair_end : (pairs words : List ℕ) → length pairs < 2 → with_pairs pairs words ≡ words
+unfolding with_pairs
+pair_end [] words h = refl
+pair_end (w ∷ []) words h = refl
+pair_end (w ∷ v ∷ ps) words h = absurd (omega arith)
 
 stored_append : (pairs words rest : List ℕ) → WordsBelow (length words) pairs → with_pairs pairs (words ++ rest) ≡ with_pairs pairs words ++ rest
 unfolding with_pairs
@@ -89,15 +95,17 @@ quad n = omega arith
 triple : (n : ℕ) → n * 3 / 3 ≡ n
 triple n = omega arith
 
-pub counts_are : {text : List ℕ} {old new : Puzzle} {g p w e q : ℕ} → Whole text old new g p w e q → Accepted g p w e q ≡ counts_of (fronts new g p (w * 2) (e * 4) (q * 3))
-counts_are {new = new} {g = g} {p = p} {w = w} {e = e} {q = q} k =
-    let a : length (take g new.map) ≡ g = length-take-le g new.map k.map.fits in
-    let b : length (take p new.cr3s) ≡ p = length-take-le p new.cr3s k.cr3s.fits in
-    let c : length (take (w * 2) new.pairs) / 2 ≡ w = ap (λ (n : ℕ). n / 2) (length-take-le (w * 2) new.pairs k.pairs.fits) ∙ double w in
-    let d : length (take (e * 4) new.events) / 4 ≡ e = ap (λ (n : ℕ). n / 4) (length-take-le (e * 4) new.events k.events.fits) ∙ quad e in
-    let f : length (take (q * 3) new.questions) / 3 ≡ q = ap (λ (n : ℕ). n / 3) (length-take-le (q * 3) new.questions k.questions.fits) ∙ triple q in
+pub counts_are : {text : List ℕ} {old new : Puzzle} {n : Counts} → Whole text old new n
+    → result_of (Ok n) ≡ counts_of (fronts new n.frames n.processors (n.words * 2) (n.events * 4) (n.questions * 3))
+counts_are {new = new} {n = n} k =
+    let a : length (take n.frames new.map) ≡ n.frames = length-take-le n.frames new.map k.map.fits in
+    let b : length (take n.processors new.cr3s) ≡ n.processors = length-take-le n.processors new.cr3s k.cr3s.fits in
+    let c : length (take (n.words * 2) new.pairs) / 2 ≡ n.words = ap (λ (n : ℕ). n / 2) (length-take-le (n.words * 2) new.pairs k.pairs.fits) ∙ double n.words in
+    let d : length (take (n.events * 4) new.events) / 4 ≡ n.events = ap (λ (n : ℕ). n / 4) (length-take-le (n.events * 4) new.events k.events.fits) ∙ quad n.events in
+    let f : length (take (n.questions * 3) new.questions) / 3 ≡ n.questions =
+    ap (λ (n : ℕ). n / 3) (length-take-le (n.questions * 3) new.questions k.questions.fits) ∙ triple n.questions in
     simp (a, b, c, d, f)
 
-pub verdict_is : {text : List ℕ} {old new : Puzzle} (r : ReadResult) → SectionsAre text old new r → r ≡ verdict_of (puzzle_of text)
-verdict_is (Accepted g p w e q) s = let k = s.read refl in counts_are k ∙ sym (ap verdict_of k.says)
-verdict_is (Refused number line) s = sym (ap verdict_of (s.fault refl))
+pub verdict_is : (text : List ℕ) (old new : Puzzle) (r : Result Counts TextFault) → SectionsAre text old new r → result_of r ≡ verdict_of (puzzle_of text)
+verdict_is text old new (Ok n) s = counts_are s ∙ sym (ap verdict_of s.says)
+verdict_is text old new (Err fault) s = sym (ap verdict_of s)

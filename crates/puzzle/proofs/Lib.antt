@@ -1,4 +1,3 @@
-pub mod Cases
 pub mod Chain
 pub mod Accepted
 pub mod Back
@@ -6,4 +5,5 @@ pub mod Fills
 pub mod Calls
 pub mod Fits
 pub mod Faults
+pub mod Results
 pub mod Theorems

@@ -10,7 +10,7 @@ use Rattle.rules.specs.declared.Event.{Event}
 use Rattle.rules.specs.History.{event_refusal, setup64}
 use Rattle.rules.specs.Outcome.{question_refusal}
 use Rattle.sections.specs.Sections.{got, refused, Puzzle, puzzle_of}
-use Rattle.puzzle.specs.Buffers.{Buffers, After, words_of, read_call}
+use Rattle.puzzle.specs.Buffers.{Buffers, After, result_of, words_of, read_call}
 use Rattle.rules.specs.Numbers.{event_of, question_of}
 use Rattle.puzzle.specs.Setup.{setup_of, InEvent}
 use Rattle.puzzle.proofs.Accepted.{accepted}
@@ -21,10 +21,18 @@ use Rattle.puzzle.specs.Lines.{InRange, lines_of}
 use Rattle.puzzle.proofs.Back.{lines_back}
 use Rattle.cursor.proofs.Decimals as decimals
 use Rattle.puzzle.proofs.Faults as faults
+use Rattle.puzzle.proofs.Results as results
+use Rattle.std.specs.Prelude.{Result}
+use Rattle.sections.specs.declared.TextFault.{TextFault}
+use Rattle.puzzle.specs.declared.Counts.{Counts}
 
 -- THE PROMISE OF `read` ALLOWS ONE RESULT AND ONE CONTENT OF EACH BUFFER, on every text and all buffers, refused or not
 pub read_unique : (text : List ℕ) (before : Buffers) (x y : After) → x ≡ read_call text before → y ≡ read_call text before → x ≡ y
 read_unique text before x y p q = p ∙ sym q
+
+-- and what a result says is that result's alone
+pub one_result : (x y : Result Counts TextFault) → result_of x ≡ result_of y → x ≡ y
+one_result = results.one_result
 
 -- A TEXT IS REFUSED WITH 10 OR 11
 pub ten_or_eleven : (text : List ℕ) {number line : ℕ} → puzzle_of text ≡ refused number line → (number ≡ 10) ⊎ (number ≡ 11)

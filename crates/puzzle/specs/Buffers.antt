@@ -1,8 +1,9 @@
 -- The call `read`: its answer, and what the lent buffers hold after it.
-use Rattle.std.specs.Prelude.{Bool, cond, ◌&&◌, List, [], ◌∷◌, ◌++◌, ℕ, ◌*◌, ◌/◌, eqb, leb, length, drop, set, replicate}
+use Rattle.std.specs.Prelude.{Bool, cond, ◌&&◌, List, [], ◌∷◌, ◌++◌, ℕ, ◌*◌, ◌/◌, eqb, leb, length, drop, set, replicate, Result, Ok, Err}
 use Rattle.paging.specs.Layout.{frame_words}
-use Rattle.puzzle.specs.declared.ReadResult.{ReadResult}
-use Rattle.puzzle.specs.declared.ReadResult.TheVariants.{Accepted, Refused}
+use Rattle.puzzle.specs.declared.Counts.{Counts}
+use Rattle.rules.specs.Refusal.{number_of}
+use Rattle.sections.specs.declared.TextFault.{TextFault}
 use Rattle.sections.specs.Sizes.{most_frames, most_processors, text_size, words_size, events_size, questions_size}
 use Rattle.sections.specs.Sections.{Got, got, refused, Puzzle, puzzle_of}
 
@@ -15,6 +16,15 @@ pub record Buffers : Type 0 where
 
 abbrev pub buffers : List ℕ → List ℕ → List ℕ → List ℕ → List ℕ → Buffers
 buffers map cr3s words events questions = record { map = map; cr3s = cr3s; words = words; events = events; questions = questions }
+
+-- what `read` says: the count of each section, or a refusal number and its line
+pub data ReadResult : Type 0 where
+  Accepted : ℕ → ℕ → ℕ → ℕ → ℕ → ReadResult
+  Refused : ℕ → ℕ → ReadResult
+
+abbrev pub result_of : Result Counts TextFault → ReadResult
+result_of (Ok n) = Accepted n.frames n.processors n.words n.events n.questions
+result_of (Err fault) = Refused (number_of fault.refusal) fault.line
 
 pub record After : Type 0 where
   pub result : ReadResult

@@ -1,37 +1,19 @@
 -- What the functions below `read` promise.
-use Rattle.std.specs.Prelude.{◌≡◌, Bool, true, false, cond, List, ℕ, ◌*◌, ◌<◌, eqb, length, take, get_or}
-use Rattle.cursor.specs.declared.Cursor.{Cursor}
+use Rattle.std.specs.Prelude.{◌≡◌, Bool, true, false, List, ℕ, ◌*◌, ◌<◌, length, take, get_or, Result, Ok, Err}
 use Rattle.cursor.specs.Text.{line_at, past_blanks}
-use Rattle.cursor.specs.CursorCode.{Stands}
-use Rattle.sections.specs.declared.Section.{Section}
-use Rattle.sections.specs.declared.Part.{Part}
-use Rattle.sections.specs.declared.Part.TheVariants.{Read, Refused as Unread}
-use Rattle.sections.specs.Sections.{Got, got, refused, width, section, Puzzle, puzzle_of}
-use Rattle.sections.specs.PartsCode.{Kept, PartIs}
-use Rattle.puzzle.specs.declared.ReadResult.{ReadResult}
-use Rattle.puzzle.specs.declared.ReadResult.TheVariants.{Accepted, Refused}
+use Rattle.rules.specs.Refusal.{number_of}
+use Rattle.sections.specs.declared.TextFault.{TextFault}
+use Rattle.sections.specs.Sections.{Got, got, refused, Puzzle, puzzle_of}
+use Rattle.sections.specs.PartsCode.{Kept, fault_of}
+use Rattle.puzzle.specs.declared.Counts.{Counts}
 use Rattle.puzzle.specs.Buffers.{Buffers}
 use Rattle.sections.specs.Sizes.{most_frames, most_processors, words_size, pairs_size, events_size, questions_size}
 
--- the count of a section; 0 of one that was refused
-abbrev pub count_of : Part → ℕ
-count_of (Read count c) = count
-count_of (Unread number line) = 0
-
--- where the next section is read
-pub record Ready (text : List ℕ) (before : Part) : Type 0 where
-  pub stands : {count : ℕ} {c : Cursor} → before ≡ Read count c → Stands text c
-
--- a section after those before it; the first refusal stays
-pub record NextIs (before : Part) (which : Section) (g p : ℕ) (text old new : List ℕ) (r : Part) : Type 0 where
-  pub read : {count : ℕ} {c : Cursor} → before ≡ Read count c → PartIs (section which g p text c.at) (width which) text old new r
-  pub fault : {number line : ℕ} → before ≡ Unread number line → r ≡ Unread number line
-
--- the end of the text after its last section: counts, or the place of what is left over
-pub record EndIs (text : List ℕ) (last : Part) (counts r : ReadResult) : Type 0 where
-  pub read : {count : ℕ} {c : Cursor} → last ≡ Read count c
-      → r ≡ cond (eqb (past_blanks text c.at) (length text)) counts (Refused 10 (line_at text (past_blanks text c.at)))
-  pub fault : {number line : ℕ} → last ≡ Unread number line → r ≡ Refused number line
+-- the end of the text after its last section: nothing but blanks, or the place of what is left over
+abbrev pub EndIs : {A : Type 0} → List ℕ → ℕ → Result A TextFault → Type 0
+EndIs text at (Ok x) = past_blanks text at ≡ length text
+EndIs text at (Err fault) =
+    (past_blanks text at ≡ length text → ⊥) × (fault ≡ fault_of (record { line = line_at text (past_blanks text at) }))
 
 -- five lists
 abbrev pub lists : List ℕ → List ℕ → List ℕ → List ℕ → List ℕ → Puzzle
@@ -50,17 +32,17 @@ pub record LongEnough (b : Puzzle) : Type 0 where
   pub questions : length b.questions ≡ questions_size
 
 -- the text is a puzzle with these counts, and it stands in the buffers
-pub record Whole (text : List ℕ) (old new : Puzzle) (g p w e q : ℕ) : Type 0 where
-  pub says : puzzle_of text ≡ got (fronts new g p (w * 2) (e * 4) (q * 3)) (length text)
-  pub map : Kept old.map new.map g
-  pub cr3s : Kept old.cr3s new.cr3s p
-  pub pairs : Kept old.pairs new.pairs (w * 2)
-  pub events : Kept old.events new.events (e * 4)
-  pub questions : Kept old.questions new.questions (q * 3)
+pub record Whole (text : List ℕ) (old new : Puzzle) (n : Counts) : Type 0 where
+  pub says : puzzle_of text ≡ got (fronts new n.frames n.processors (n.words * 2) (n.events * 4) (n.questions * 3)) (length text)
+  pub map : Kept old.map new.map n.frames
+  pub cr3s : Kept old.cr3s new.cr3s n.processors
+  pub pairs : Kept old.pairs new.pairs (n.words * 2)
+  pub events : Kept old.events new.events (n.events * 4)
+  pub questions : Kept old.questions new.questions (n.questions * 3)
 
-pub record SectionsAre (text : List ℕ) (old new : Puzzle) (r : ReadResult) : Type 0 where
-  pub read : {g p w e q : ℕ} → r ≡ Accepted g p w e q → Whole text old new g p w e q
-  pub fault : {number line : ℕ} → r ≡ Refused number line → puzzle_of text ≡ refused number line
+abbrev pub SectionsAre : List ℕ → Puzzle → Puzzle → Result Counts TextFault → Type 0
+SectionsAre text old new (Ok n) = Whole text old new n
+SectionsAre text old new (Err fault) = puzzle_of text ≡ refused (number_of fault.refusal) fault.line
 
 -- each word of word and value pairs is below n
 abbrev pub WordsBelow : ℕ → List ℕ → Type 0

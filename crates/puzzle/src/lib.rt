@@ -1,64 +1,37 @@
 // From the bytes of a puzzle to its map, CR3s, words, events and questions, or to the first fault's number and line.
 #![tactic(auto)]
 
-ghost use Rattle.std.specs.Prelude.{◌≡◌, true, ◌*◌, ◌≤◌, length, take, replicate};
+ghost use Rattle.std.specs.Prelude.{◌≡◌, true, ◌≤◌, length};
+ghost use Rattle.cursor.specs.CursorCode.{Stands};
 ghost use Rattle.sections.specs.Sections.{puzzle_of};
-ghost use Rattle.sections.specs.PartsCode.{capacity};
-ghost use Rattle.puzzle.specs.Buffers.{buffers, after, with_pairs, laid, verdict_of, answer, read_call};
-ghost use Rattle.puzzle.specs.PartsCode.{count_of, Ready, NextIs, EndIs, lists, LongEnough, SectionsAre, WordsBelow, Lengths, accepts};
+ghost use Rattle.puzzle.specs.Buffers.{buffers, after, with_pairs, result_of, verdict_of, answer, sized, read_call};
+ghost use Rattle.puzzle.specs.PartsCode.{EndIs, lists, LongEnough, SectionsAre, WordsBelow, Lengths, accepts};
 
-use cursor::Cursor;
-use sections::{Part, Section};
+use cursor::{Cursor, NoNumber};
+use rules::Refusal;
+pub use sections::TextFault;
+use sections::{Limits, Section};
 
-// The count of each section, or a refusal number and its line.
+// The count of each section.
 #[derive(Clone, Copy)]
-pub enum ReadResult {
-    Accepted {
-        frames: u64,
-        processors: u64,
-        words: u64,
-        events: u64,
-        questions: u64,
-    },
-    Refused(u64, u64),
+pub struct Counts {
+    pub frames: u64,
+    pub processors: u64,
+    pub words: u64,
+    pub events: u64,
+    pub questions: u64,
 }
 
-// The count of a section; 0 of one that was refused.
-fn count_of(part: Part) -> u64
-    ensures { result ≡ count_of part }
+// Only blanks may follow the last section; what else does is refused as no number.
+fn test_end(text: &[u8], last: Cursor) -> Result<(), TextFault>
+    requires { Stands text.now last }
+    ensures { EndIs text.now last.at result }
 {
-    match part {
-        Part::Read(count, _) => count,
-        Part::Refused(_, _) => 0,
+    let end = cursor::skip_from(text, last);
+    if end.at < text.len() {
+        return Err(TextFault::from(NoNumber { line: end.line }));
     }
-}
-
-// The next section, if all before it were read; the first refusal stays.
-fn read_next(text: &[u8], before: Part, which: Section, g: u64, p: u64, buffer: &mut [u64]) -> Part
-    requires { Ready text.now before × (g ≤ 16) × (length buffer.old ≡ capacity which) }
-    ensures { NextIs before which g p text.now buffer.old buffer.new result }
-{
-    match before {
-        Part::Refused(number, line) => Part::Refused(number, line),
-        Part::Read(_, c) => sections::read(text, c, which, g, p, buffer),
-    }
-}
-
-// Only blanks may follow the last section.
-fn finish(text: &[u8], last: Part, counts: ReadResult) -> ReadResult
-    requires { Ready text.now last }
-    ensures { EndIs text.now last counts result }
-{
-    match last {
-        Part::Refused(number, line) => ReadResult::Refused(number, line),
-        Part::Read(_, c) => {
-            let end = cursor::skip_from(text, c);
-            if end.at < text.len() {
-                return ReadResult::Refused(10, end.line);
-            }
-            counts
-        }
-    }
+    Ok(())
 }
 
 // All sections in their order, each into its buffer; the words as pairs of word and value.
@@ -69,48 +42,53 @@ fn read_sections(
     pairs: &mut [u64],
     events: &mut [u64],
     questions: &mut [u64],
-) -> ReadResult
+) -> Result<Counts, TextFault>
     requires { LongEnough (lists map.old cr3s.old pairs.old events.old questions.old) }
     ensures { SectionsAre text.now (lists map.old cr3s.old pairs.old events.old questions.old) (lists map.new cr3s.new pairs.new events.new questions.new) result }
 {
     let start = Cursor { at: 0, line: 1 };
-    let frames = sections::read(text, start, Section::Map, 0, 0, map);
-    let g = count_of(frames);
-    let roots = read_next(text, frames, Section::Cr3s, g, 0, cr3s);
-    let p = count_of(roots);
-    let words = read_next(text, roots, Section::Words, g, p, pairs);
-    let steps = read_next(text, words, Section::Events, g, p, events);
-    let asked = read_next(text, steps, Section::Questions, g, p, questions);
-    let counts = ReadResult::Accepted {
-        frames: g,
-        processors: p,
-        words: count_of(words),
-        events: count_of(steps),
-        questions: count_of(asked),
+    let none = Limits {
+        frames: 0,
+        processors: 0,
     };
-    finish(text, asked, counts)
+    let frames = sections::read(text, start, Section::Map, none, map)?;
+    let guest = Limits {
+        frames: frames.count,
+        processors: 0,
+    };
+    let roots = sections::read(text, frames.after, Section::Cr3s, guest, cr3s)?;
+    let limits = Limits {
+        frames: frames.count,
+        processors: roots.count,
+    };
+    let words = sections::read(text, roots.after, Section::Words, limits, pairs)?;
+    let steps = sections::read(text, words.after, Section::Events, limits, events)?;
+    let asked = sections::read(text, steps.after, Section::Questions, limits, questions)?;
+    test_end(text, asked.after)?;
+    Ok(Counts {
+        frames: limits.frames,
+        processors: limits.processors,
+        words: words.count,
+        events: steps.count,
+        questions: asked.count,
+    })
 }
 
-fn clear(words: &mut [u64], n: usize)
-    requires { n ≤ length words.old }
-    ensures { words.new ≡ laid (replicate n 0) words.old }
+// Each word of the pairs becomes its value.
+#[tactic(auto, using(crate::proofs::Fills::pair_more, crate::proofs::Fills::pair_below, crate::proofs::Fills::pair_end))]
+fn store_pairs(words: &mut [u64], pairs: &[u64])
+    requires { WordsBelow (length words.old) pairs.now }
+    ensures { words.new ≡ with_pairs pairs.now words.old }
 {
-    paging::zero(&mut words[..n]);
-}
-
-fn store_pairs(words: &mut [u64], pairs: &[u64], n: usize)
-    requires { (n * 2 ≤ length pairs.now) × WordsBelow (length words.old) (take (n * 2) pairs.now) }
-    ensures { words.new ≡ with_pairs (take (n * 2) pairs.now) words.old }
-{
-    for i in 0..n {
-        let word = pairs[i * 2] as usize;
-        words[word] = pairs[i * 2 + 1];
+    for pair in pairs.chunks_exact(2) {
+        words[pair[0] as usize] = pair[1];
     }
 }
 
 // What the text says, before any buffer is touched: its sections are read into arrays of this function's own.
-fn verdict(text: &[u8]) -> ReadResult
-    ensures { result ≡ verdict_of (puzzle_of text.now) }
+#[tactic(auto, using(crate::proofs::Fills::verdict_is))]
+fn verdict(text: &[u8]) -> Result<Counts, TextFault>
+    ensures { result_of result ≡ verdict_of (puzzle_of text.now) }
 {
     let mut map = [0u64; sections::MOST_FRAMES];
     let mut cr3s = [0u64; sections::MOST_PROCESSORS];
@@ -135,29 +113,39 @@ fn fill(
     words: &mut [u64],
     events: &mut [u64],
     questions: &mut [u64],
-) -> ReadResult
+) -> Result<Counts, TextFault>
     requires { Lengths (buffers map.old cr3s.old words.old events.old questions.old) × (accepts (puzzle_of text.now) ≡ true) }
-    ensures { after result (buffers map.new cr3s.new words.new events.new questions.new) ≡ answer (puzzle_of text.now) (buffers map.old cr3s.old words.old events.old questions.old) }
+    ensures { after (result_of result) (buffers map.new cr3s.new words.new events.new questions.new) ≡ answer (puzzle_of text.now) (buffers map.old cr3s.old words.old events.old questions.old) }
 {
     let mut pairs = [0u64; sections::PAIRS_SIZE];
-    let counts = read_sections(text, map, cr3s, &mut pairs, events, questions);
-    match counts {
-        ReadResult::Refused(number, line) => ReadResult::Refused(number, line),
-        ReadResult::Accepted {
-            frames,
-            processors: _,
-            words: n,
-            events: _,
-            questions: _,
-        } => {
-            clear(words, paging::FRAME_WORDS * (frames as usize));
-            store_pairs(words, &pairs, n as usize);
-            counts
-        }
-    }
+    let counts = read_sections(text, map, cr3s, &mut pairs, events, questions)?;
+    words[..paging::FRAME_WORDS * counts.frames as usize].fill(0);
+    store_pairs(words, &pairs[..counts.words as usize * 2]);
+    Ok(counts)
+}
+
+// A text that is not too long, and buffers of the sizes that the programs take.
+fn are_sized(
+    text: &[u8],
+    map: &[u64],
+    cr3s: &[u64],
+    words: &[u64],
+    events: &[u64],
+    questions: &[u64],
+) -> bool
+    ensures { result ≡ sized text.now (buffers map.now cr3s.now words.now events.now questions.now) }
+{
+    text.len() <= sections::TEXT_SIZE
+        && map.len() == sections::MOST_FRAMES
+        && cr3s.len() == sections::MOST_PROCESSORS
+        && words.len() == sections::WORDS_SIZE
+        && events.len() == sections::EVENTS_SIZE
+        && questions.len() == sections::QUESTIONS_SIZE
 }
 
 // The text is judged first; only then is anything written, so that a refusal changes nothing.
+// Kept: five buffers, since the C interface lends them one by one (`flamecurl_read`).
+#[tactic(auto, using(crate::proofs::Calls::refused_answer), unfolding(crate::specs::Buffers::read_call))]
 pub fn read(
     text: &[u8],
     map: &mut [u64],
@@ -165,35 +153,15 @@ pub fn read(
     words: &mut [u64],
     events: &mut [u64],
     questions: &mut [u64],
-) -> ReadResult
-    ensures { after result (buffers map.new cr3s.new words.new events.new questions.new) ≡ read_call text.now (buffers map.old cr3s.old words.old events.old questions.old) }
+) -> Result<Counts, TextFault>
+    ensures { after (result_of result) (buffers map.new cr3s.new words.new events.new questions.new) ≡ read_call text.now (buffers map.old cr3s.old words.old events.old questions.old) }
 {
-    if text.len() > sections::TEXT_SIZE {
-        return ReadResult::Refused(1, 0);
+    if !are_sized(text, map, cr3s, words, events, questions) {
+        return Err(TextFault {
+            refusal: Refusal::WrongSizes,
+            line: 0,
+        });
     }
-    if map.len() != sections::MOST_FRAMES {
-        return ReadResult::Refused(1, 0);
-    }
-    if cr3s.len() != sections::MOST_PROCESSORS {
-        return ReadResult::Refused(1, 0);
-    }
-    if words.len() != sections::WORDS_SIZE {
-        return ReadResult::Refused(1, 0);
-    }
-    if events.len() != sections::EVENTS_SIZE {
-        return ReadResult::Refused(1, 0);
-    }
-    if questions.len() != sections::QUESTIONS_SIZE {
-        return ReadResult::Refused(1, 0);
-    }
-    match verdict(text) {
-        ReadResult::Refused(number, line) => ReadResult::Refused(number, line),
-        ReadResult::Accepted {
-            frames: _,
-            processors: _,
-            words: _,
-            events: _,
-            questions: _,
-        } => fill(text, map, cr3s, words, events, questions),
-    }
+    verdict(text)?;
+    fill(text, map, cr3s, words, events, questions)
 }

@@ -3,44 +3,26 @@
 // Every buffer starts as sevens, so that the sums of a refusal show that nothing was written.
 #![tactic(auto)]
 
-ghost use Rattle.std.specs.Prelude.{◌≤◌, length};
-
-use buffers::{print, print_number, read_full, sum};
-use puzzle::ReadResult;
+use buffers::{print, print_numbers, read_full, sum};
+use puzzle::{Counts, TextFault};
 use std::io;
 
-fn find(s: &[u8], from: usize, b: u8) -> usize
-    requires { from ≤ length s.now }
-    ensures { (from ≤ result) × (result ≤ length s.now) }
-{
-    for i in from..s.len() {
-        if s[i] == b {
-            return i;
-        }
-    }
-    s.len()
-}
-
-fn print_result(rt: &impl Print, r: ReadResult) -> io::Result<()> {
+fn print_result(rt: &impl Print, r: Result<Counts, TextFault>) -> io::Result<()> {
     match r {
-        ReadResult::Refused(number, line) => {
-            print(rt, b": R")?;
-            print_number(rt, number)?;
-            print_number(rt, line)
-        }
-        ReadResult::Accepted {
-            frames,
-            processors,
-            words,
-            events,
-            questions,
-        } => {
+        Ok(counts) => {
             print(rt, b": A")?;
-            print_number(rt, frames)?;
-            print_number(rt, processors)?;
-            print_number(rt, words)?;
-            print_number(rt, events)?;
-            print_number(rt, questions)
+            let Counts {
+                frames,
+                processors,
+                words,
+                events,
+                questions,
+            } = counts;
+            print_numbers(rt, &[frames, processors, words, events, questions])
+        }
+        Err(fault) => {
+            print(rt, b": R")?;
+            print_numbers(rt, &[fault.number(), fault.line])
         }
     }
 }
@@ -62,42 +44,36 @@ fn show(rt: &impl Print, label: &[u8], text: &[u8]) -> io::Result<()> {
     print(rt, label)?;
     print_result(rt, r)?;
     print(rt, b" ;")?;
-    print_number(rt, sum(&map))?;
-    print_number(rt, sum(&cr3s))?;
-    print_number(rt, sum(&words))?;
-    print_number(rt, sum(&events))?;
-    print_number(rt, sum(&questions))
+    print_numbers(
+        rt,
+        &[
+            sum(&map),
+            sum(&cr3s),
+            sum(&words),
+            sum(&events),
+            sum(&questions),
+        ],
+    )
 }
 
 fn show_all(rt: &impl Print, s: &[u8]) -> io::Result<()> {
-    let mut at = 0;
-    while at < s.len() {
-        let eq = find(s, at, b'=');
-        if eq >= s.len() {
-            return Ok(());
+    for case in s.split(|b| *b == b'|') {
+        if let Some(end) = case.iter().position(|b| *b == b'=') {
+            show(rt, &case[..end], &case[end + 1..])?;
         }
-        let text = eq + 1;
-        let end = find(s, text, b'|');
-        show(rt, &s[at..eq], &s[text..end])?;
-        at = end + 1;
     }
     Ok(())
 }
 
 // Buffers that are too short are refused before the text is looked at.
 fn show_short(rt: &impl Print, text: &[u8]) -> io::Result<()> {
-    let mut map = [7u64; 15];
-    let mut cr3s = [7u64; 4];
-    let mut words = [7u64; 8192];
-    let mut events = [7u64; 1024];
-    let mut questions = [7u64; 48];
     let r = puzzle::read(
         text,
-        &mut map,
-        &mut cr3s,
-        &mut words,
-        &mut events,
-        &mut questions,
+        &mut [7; 15],
+        &mut [7; 4],
+        &mut [7; 8192],
+        &mut [7; 1024],
+        &mut [7; 48],
     );
     print(rt, b"\na map of 15")?;
     print_result(rt, r)

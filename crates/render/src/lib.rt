@@ -1,94 +1,112 @@
-// The lines of `answers` and `run`, written into a lent buffer. Each function takes the place of its first byte and gives the one after its last.
+// The lines of `answers` and `run`, written one behind the other into a lent buffer.
 #![tactic(auto)]
 
-ghost use Rattle.std.specs.Prelude.{◌≡◌, ◌∷◌, ◌+◌, ◌*◌, ◌<◌, ◌≤◌, length};
+ghost use Rattle.std.specs.Prelude.{◌≡◌, [], ◌∷◌, ◌+◌, ◌*◌, ◌<◌, ◌≤◌, length};
 ghost use Rattle.cursor.specs.Text.{digits_of};
 ghost use Rattle.render.specs.Render.{line, render_event};
-ghost use Rattle.render.specs.WrittenCode.{out_of, written};
+ghost use Rattle.render.specs.WrittenCode.{HasRoom, Puts};
 ghost use Rattle.render.specs.LinesCode.{pair_line, pair_lines, question_lines, Mapped, AllMapped};
 
 use paging::Guest;
 use rules::Question;
 
-// All digits but the last are those of a tenth.
-fn put_digits(out: &mut [u8], at: usize, n: u64) -> usize
-    requires { at + length (digits_of n) ≤ length out.old }
-    ensures { out_of result out.new ≡ written (digits_of n) (out_of at out.old) }
-{
-    if n < 10 {
-        out[at] = 48 + n as u8;
-        return at + 1;
+// A lent buffer, and the place of the next byte.
+#[derive(Drop)]
+pub struct Printer<'a> {
+    out: &'a mut [u8],
+    at: usize,
+}
+
+impl<'a> Printer<'a> {
+    pub fn new(out: &'a mut [u8]) -> Printer<'a>
+        ensures { (result.at ≡ 0) × (result.out.ghost_name ≡ out.entry.ghost_name) × (result.out.now ≡ out.old) }
+    {
+        Printer { out, at: 0 }
     }
-    let end = put_digits(out, at, n / 10);
-    out[end] = 48 + (n % 10) as u8;
-    end + 1
-}
 
-fn put_number(out: &mut [u8], at: usize, n: u64) -> usize
-    requires { at + 21 ≤ length out.old }
-    ensures { (out_of result out.new ≡ written (32 ∷ digits_of n) (out_of at out.old)) × (result ≤ at + 21) }
-{
-    out[at] = b' ';
-    put_digits(out, at + 1, n)
-}
-
-// A letter, each number after a space, and a line feed.
-pub fn put_line(out: &mut [u8], at: usize, letter: u8, ns: &[u64]) -> usize
-    requires { at + 2 + 21 * length ns.now ≤ length out.old }
-    ensures { (out_of result out.new ≡ written (line letter ns.now) (out_of at out.old)) × (result ≤ at + 2 + 21 * length ns.now) }
-{
-    out[at] = letter;
-    let mut end = at + 1;
-    let mut i = 0;
-    while i < ns.len() {
-        end = put_number(out, end, ns[i]);
-        i += 1;
+    // How many bytes were written.
+    pub fn len(&self) -> usize
+        ensures { result ≡ self.now.at }
+    {
+        self.at
     }
-    out[end] = b'\n';
-    end + 1
-}
 
-// An address is in its mapped host frame.
-fn put_outcome(out: &mut [u8], at: usize, map: &[u64], addr: u64, tag: u64, v: u64) -> usize
-    requires { (at + 44 ≤ length out.old) × Mapped map.now tag v }
-    ensures { (out_of result out.new ≡ written (pair_line map.now addr tag v) (out_of at out.old)) × (result ≤ at + 44) }
-{
-    if tag == 0 {
-        let host = paging::host_of(map, Guest(v));
-        let address = paging::host_address(host, addr);
-        return put_line(out, at, b'A', &[v, address]);
+    fn put(&mut self, byte: u8)
+        requires { HasRoom self.old 1 }
+        ensures { Puts (byte ∷ []) self.old self.new }
+    {
+        self.out[self.at] = byte;
+        self.at += 1;
     }
-    put_line(out, at, b'F', &[v])
-}
 
-fn put_outcomes(out: &mut [u8], at: usize, map: &[u64], addr: u64, pairs: &[u64]) -> usize
-    requires { (at + 22 * length pairs.now ≤ length out.old) × AllMapped map.now pairs.now }
-    ensures { (out_of result out.new ≡ written (pair_lines map.now addr pairs.now) (out_of at out.old)) × (result ≤ at + 22 * length pairs.now) }
-{
-    let n = pairs.len() / 2;
-    let mut end = at;
-    let mut k = 0;
-    while k < n {
-        end = put_outcome(out, end, map, addr, pairs[2 * k], pairs[2 * k + 1]);
-        k += 1;
+    // All digits but the last are those of a tenth.
+    fn put_digits(&mut self, n: u64)
+        requires { HasRoom self.old (length (digits_of n)) }
+        ensures { Puts (digits_of n) self.old self.new }
+    {
+        if n >= 10 {
+            self.put_digits(n / 10);
+        }
+        self.put(48 + (n % 10) as u8);
     }
-    end
-}
 
-// The question with the number of its outcomes, then the outcomes, given as pairs.
-pub fn put_question(out: &mut [u8], at: usize, map: &[u64], q: Question, pairs: &[u64]) -> usize
-    requires { (at + 86 + 22 * length pairs.now ≤ length out.old) × AllMapped map.now pairs.now }
-    ensures { (out_of result out.new ≡ written (question_lines map.now q pairs.now) (out_of at out.old)) × (result ≤ at + 86 + 22 * length pairs.now) }
-{
-    let count = (pairs.len() / 2) as u64;
-    let end = put_line(out, at, b'Q', &[q.proc, q.addr, q.request, count]);
-    put_outcomes(out, end, map, q.addr, pairs)
-}
+    fn put_number(&mut self, n: u64)
+        requires { HasRoom self.old 21 }
+        ensures { Puts (32 ∷ digits_of n) self.old self.new × (self.new.at ≤ self.old.at + 21) }
+    {
+        self.put(b' ');
+        self.put_digits(n);
+    }
 
-// A kind has one digit; without that the lines of 256 events might not fit into 16,384 bytes.
-pub fn put_event(out: &mut [u8], at: usize, index: u64, kind: u64, value: u64) -> usize
-    requires { (at + 65 ≤ length out.old) × (kind < 10) }
-    ensures { (out_of result out.new ≡ written (render_event index kind value) (out_of at out.old)) × (result ≤ at + 46) }
-{
-    put_line(out, at, b'E', &[index, kind, value])
+    // A letter, each number after a space, and a line feed.
+    pub fn put_line(&mut self, letter: u8, ns: &[u64])
+        requires { HasRoom self.old (2 + 21 * length ns.now) }
+        ensures { Puts (line letter ns.now) self.old self.new × (self.new.at ≤ self.old.at + 2 + 21 * length ns.now) }
+    {
+        self.put(letter);
+        for n in ns {
+            self.put_number(*n);
+        }
+        self.put(b'\n');
+    }
+
+    // An address is in its mapped host frame. Kept: the tag is a number, since the list call lays its outcomes into a buffer that C lends.
+    fn put_outcome(&mut self, map: &[u64], addr: u64, tag: u64, v: u64)
+        requires { HasRoom self.old 44 × Mapped map.now tag v }
+        ensures { Puts (pair_line map.now addr tag v) self.old self.new × (self.new.at ≤ self.old.at + 44) }
+    {
+        if tag == 0 {
+            let host = paging::host_of(map, Guest(v));
+            let address = paging::host_address(host, addr);
+            return self.put_line(b'A', &[v, address]);
+        }
+        self.put_line(b'F', &[v]);
+    }
+
+    fn put_outcomes(&mut self, map: &[u64], addr: u64, pairs: &[u64])
+        requires { HasRoom self.old (22 * length pairs.now) × AllMapped map.now pairs.now }
+        ensures { Puts (pair_lines map.now addr pairs.now) self.old self.new × (self.new.at ≤ self.old.at + 22 * length pairs.now) }
+    {
+        for pair in pairs.chunks_exact(2) {
+            self.put_outcome(map, addr, pair[0], pair[1]);
+        }
+    }
+
+    // The question with the number of its outcomes, then the outcomes, given as pairs.
+    pub fn put_question(&mut self, map: &[u64], q: Question, pairs: &[u64])
+        requires { HasRoom self.old (86 + 22 * length pairs.now) × AllMapped map.now pairs.now }
+        ensures { Puts (question_lines map.now q pairs.now) self.old self.new × (self.new.at ≤ self.old.at + 86 + 22 * length pairs.now) }
+    {
+        let count = (pairs.len() / 2) as u64;
+        self.put_line(b'Q', &[q.proc, q.addr, q.request, count]);
+        self.put_outcomes(map, q.addr, pairs);
+    }
+
+    // A kind has one digit; without that the lines of 256 events might not fit into 16,384 bytes.
+    pub fn put_event(&mut self, index: u64, kind: u64, value: u64)
+        requires { HasRoom self.old 65 × (kind < 10) }
+        ensures { Puts (render_event index kind value) self.old self.new × (self.new.at ≤ self.old.at + 46) }
+    {
+        self.put_line(b'E', &[index, kind, value]);
+    }
 }

@@ -2,6 +2,7 @@
 #![tactic(auto)]
 
 ghost use Rattle.std.specs.Prelude.{◌≡◌, [], ◌*◌, ◌≤◌, length};
+ghost use Rattle.rules.specs.Refusal.{number_of};
 ghost use Rattle.sections.specs.Sizes.{most_frames};
 ghost use Rattle.sections.specs.Sections.{map_range, word_range, event_so_far, event_range, question_range, width, count_range, in_range, numbers, section};
 ghost use Rattle.sections.specs.PartsCode.{capacity, fault_of, out_of_range, PartIs};
@@ -39,6 +40,14 @@ pub enum Section {
     Questions,
 }
 
+// What the ranges hang on: how many frames and processors the text has named, 0 before it does.
+#[derive(Clone, Copy)]
+pub struct Limits {
+    pub frames: u64,
+    pub processors: u64,
+    pub ghost few: { frames ≤ most_frames },
+}
+
 // The count of a section and the cursor after it.
 #[derive(Clone, Copy)]
 pub struct Part {
@@ -51,6 +60,15 @@ pub struct Part {
 pub struct TextFault {
     pub refusal: Refusal,
     pub line: u64,
+}
+
+impl TextFault {
+    // The number of the refusal, as it is printed.
+    pub fn number(self) -> u64
+        ensures { result ≡ number_of self.refusal }
+    {
+        self.refusal.into()
+    }
 }
 
 impl From<NoNumber> for TextFault {
@@ -72,15 +90,14 @@ fn in_map_range(before: &[u64], v: u64) -> bool
 }
 
 #[tactic(auto, unfolding(crate::specs::Sections::word_range))]
-fn in_word_range(g: u64, before: &[u64], v: u64) -> bool
-    requires { g ≤ most_frames }
-    ensures { result ≡ word_range g before.now v }
+fn in_word_range(limits: Limits, before: &[u64], v: u64) -> bool
+    ensures { result ≡ word_range limits.frames before.now v }
 {
     let i = before.len();
     if i % 2 != 0 {
         return true;
     }
-    v < paging::FRAME_WORDS as u64 * g && (i == 0 || before[i - 2] < v)
+    v < paging::FRAME_WORDS as u64 * limits.frames && (i == 0 || before[i - 2] < v)
 }
 
 // What is still to come of the event is taken to be a store of 0 to word 0, which always fits.
@@ -117,19 +134,19 @@ fn event_so_far(before: &[u64], v: u64) -> Event
 }
 
 #[tactic(auto, unfolding(crate::specs::Sections::event_range))]
-fn in_event_range(g: u64, p: u64, before: &[u64], v: u64) -> bool
-    requires { g ≤ most_frames }
-    ensures { result ≡ event_range g p before.now v }
+fn in_event_range(limits: Limits, before: &[u64], v: u64) -> bool
+    ensures { result ≡ event_range limits.frames limits.processors before.now v }
 {
-    rules::test_event(g, p, event_so_far(before, v)).is_ok()
+    let Limits { frames, processors } = limits;
+    rules::test_event(frames, processors, event_so_far(before, v)).is_ok()
 }
 
 #[tactic(auto, unfolding(crate::specs::Sections::question_range))]
-fn in_question_range(p: u64, i: usize, v: u64) -> bool
-    ensures { result ≡ question_range p i v }
+fn in_question_range(limits: Limits, i: usize, v: u64) -> bool
+    ensures { result ≡ question_range limits.processors i v }
 {
     match i % 3 {
-        0 => v < p,
+        0 => v < limits.processors,
         1 => paging::is_allowed(v),
         _ => v <= 5,
     }
@@ -149,30 +166,28 @@ impl Section {
         }
     }
 
-    fn in_count_range(self, g: u64, n: u64) -> bool
-        requires { g ≤ most_frames }
-        ensures { result ≡ count_range self g n }
+    fn in_count_range(self, limits: Limits, n: u64) -> bool
+        ensures { result ≡ count_range self limits.frames n }
     {
         match self {
             Section::Map => (1..=MOST_FRAMES as u64).contains(&n),
             Section::Cr3s => (1..=MOST_PROCESSORS as u64).contains(&n),
-            Section::Words => n <= paging::FRAME_WORDS as u64 * g,
+            Section::Words => n <= paging::FRAME_WORDS as u64 * limits.frames,
             Section::Events => n <= MOST_EVENTS as u64,
             Section::Questions => (1..=MOST_QUESTIONS as u64).contains(&n),
         }
     }
 
     // Whether a number of the section may follow those before it.
-    fn in_range(self, g: u64, p: u64, before: &[u64], v: u64) -> bool
-        requires { g ≤ most_frames }
-        ensures { result ≡ in_range self g p before.now v }
+    fn in_range(self, limits: Limits, before: &[u64], v: u64) -> bool
+        ensures { result ≡ in_range self limits.frames limits.processors before.now v }
     {
         match self {
             Section::Map => in_map_range(before, v),
-            Section::Cr3s => v < g,
-            Section::Words => in_word_range(g, before, v),
-            Section::Events => in_event_range(g, p, before, v),
-            Section::Questions => in_question_range(p, before.len(), v),
+            Section::Cr3s => v < limits.frames,
+            Section::Words => in_word_range(limits, before, v),
+            Section::Events => in_event_range(limits, before, v),
+            Section::Questions => in_question_range(limits, before.len(), v),
         }
     }
 }
@@ -191,18 +206,17 @@ fn read_numbers(
     text: &[u8],
     from: Cursor,
     which: Section,
-    g: u64,
-    p: u64,
+    limits: Limits,
     count: u64,
     buffer: &mut [u64],
 ) -> Result<Part, TextFault>
-    requires { Stands text.now from × (g ≤ most_frames) × (count * width which ≤ length buffer.old) }
-    ensures { PartIs (numbers (in_range which g p) text.now (count * width which) [] from.at) (width which) text.now buffer.old buffer.new result }
+    requires { Stands text.now from × (count * width which ≤ length buffer.old) }
+    ensures { PartIs (numbers (in_range which limits.frames limits.processors) text.now (count * width which) [] from.at) (width which) text.now buffer.old buffer.new result }
 {
     let mut c = from;
     for i in 0..count as usize * which.width() {
         let number = cursor::next_from(text, c)?;
-        if !which.in_range(g, p, &buffer[..i], number.value) {
+        if !which.in_range(limits, &buffer[..i], number.value) {
             return Err(out_of_range(number.after));
         }
         buffer[i] = number.value;
@@ -216,16 +230,15 @@ pub fn read(
     text: &[u8],
     from: Cursor,
     which: Section,
-    g: u64,
-    p: u64,
+    limits: Limits,
     buffer: &mut [u64],
 ) -> Result<Part, TextFault>
-    requires { Stands text.now from × (g ≤ most_frames) × (length buffer.old ≡ capacity which) }
-    ensures { PartIs (section which g p text.now from.at) (width which) text.now buffer.old buffer.new result }
+    requires { Stands text.now from × (length buffer.old ≡ capacity which) }
+    ensures { PartIs (section which limits.frames limits.processors text.now from.at) (width which) text.now buffer.old buffer.new result }
 {
     let count = cursor::next_from(text, from)?;
-    if !which.in_count_range(g, count.value) {
+    if !which.in_count_range(limits, count.value) {
         return Err(out_of_range(count.after));
     }
-    read_numbers(text, count.after, which, g, p, count.value, buffer)
+    read_numbers(text, count.after, which, limits, count.value, buffer)
 }

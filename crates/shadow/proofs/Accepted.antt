@@ -3,6 +3,7 @@ use mathlib.Core.Path.{◌≡◌, refl, sym, ap, ◌∙◌}
 use mathlib.Core.Bool.{Bool, true, false, cond, not, ◌&&◌, ◌||◌, beq}
 use mathlib.Core.List.{List, [], ◌∷◌, ◌++◌}
 use Prim.Native.Nat.{ℕ, zero, suc, ◌+◌, ◌-◌, ◌*◌, ◌^◌, ◌<◌, ◌≤◌}
+use native.Mathlib.Decide.{dec_lt}
 use native.Mathlib.Omega.{arith}
 use lib.Dec.{eqb, ltb, leb}
 use lib.ListN.{length, get_or}
@@ -13,9 +14,11 @@ use Rattle.paging.specs.Numbers.{all}
 use Rattle.paging.proofs.Numbers.{all-at}
 use Rattle.paging.proofs.Tests.{both}
 use Rattle.rules.specs.declared.Event.{Event}
-use Rattle.rules.specs.Refusal.{Test, test, refusal}
+use Rattle.rules.specs.declared.Refusal.{Refusal}
+use Rattle.rules.specs.Refusal.{Test, test, refusal, number_of}
 use Rattle.rules.specs.History.{is_store, is_cr3_write, is_access, is_begin, is_extend, is_drop, event_tests, event_refusal}
 use Rattle.rules.proofs.Ranges.{Clear, clear, event_clear}
+use Rattle.rules.proofs.Refusals.{some_number}
 use Rattle.tables.specs.declared.Sizes.{Sizes}
 use Rattle.tables.specs.State.{Machine, Shadow, State, machine64, table_count, root_of, entry_count, entry_of, level_of, shadows, is_free, path_to}
 use Rattle.slots.specs.Slots.{mark_of, page_in, place_in, rights_in}
@@ -26,20 +29,19 @@ use Rattle.shadow.specs.ReadyCode.{Ready, Standing, Fitting}
 use Rattle.shadow.proofs.Sizing.{Ranged, ranged, sized, pool_room, Exact, exact, hosts_below}
 use Rattle.tables.specs.SizesCode.{Sized}
 
+-- ---- a test and its refusal
+
+-- what a test that was passed says
+pub passes : (b : Bool) {m : ℕ} → 0 < m → ◌≡◌ {A = ℕ} 0 (cond b 0 m) → b ≡ true
+passes true h e = refl
+passes false h e = absurd (omega arith)
+
+-- and one that refuses
+pub fails : (r : Refusal) (b : Bool) {m n : ℕ} → number_of r ≡ cond b 0 m → (b ≡ false → m ≡ n) → number_of r ≡ n
+fails r true e f = absurd (omega (arith, some_number r))
+fails r false e f = e ∙ f refl
+
 -- ---- tables of tests
-
--- what follows a test that is met is not looked at
-pub first_two : (a b : Bool) (rest : List Test) → (refusal (test 1 a ∷ test 2 b ∷ []) ≡ 0 → ⊥) → refusal (test 1 a ∷ test 2 b ∷ []) ≡ refusal (test 1 a ∷ test 2 b ∷ rest)
-unfolding refusal
-first_two true b rest some = refl
-first_two false true rest some = refl
-first_two false false rest some = absurd (some refl)
-
-pub neither : (a b : Bool) → refusal (test 1 (not a) ∷ test 2 (not b) ∷ []) ≡ 0 → (a ≡ true) × (b ≡ true)
-unfolding refusal
-neither true true e = (refl, refl)
-neither true false e = absurd (omega arith)
-neither false b e = absurd (omega arith)
 
 pub refusal_more : (ts us : List Test) → {n : ℕ} → n ≡ refusal ts → (n ≡ 0 → ⊥) → n ≡ refusal (ts ++ us)
 unfolding refusal
@@ -120,55 +122,37 @@ shadows_within M map s t e =
 
 -- ---- the number of a call, test by test
 
-module _ (M : Machine) (map : List ℕ) (s : State) (e : Event) {w : Bool} (ew : w ≡ eqb (length s.words) (frame_words * M.frames)) where
-  abbrev sizes : Bool → Bool
-  sizes b = ranges_fit M && lengths_fit M map s.shadow s.slots && b
-
-  abbrev later : List Test
-  later = test 3 (not (lawful M map s)) ∷ event_tests (as_setup M s) e ++ (test 12 (too_few M) ∷ [])
-
-  pub call_early : {n : ℕ} → n ≡ refusal (test 1 (not (sizes w)) ∷ test 2 (not (frames_fit M map)) ∷ []) → (n ≡ 0 → ⊥) → n ≡ call_refusal M map s e
-  unfolding call_refusal
-  call_early en some =
-      en ∙ first_two (not (sizes w)) (not (frames_fit M map)) later (λ q. some (en ∙ q))
-      ∙ ap (λ (b : Bool). refusal (test 1 (not (sizes b)) ∷ test 2 (not (frames_fit M map)) ∷ later)) ew
-
-  module _ (none : 0 ≡ refusal (test 1 (not (sizes w)) ∷ test 2 (not (frames_fit M map)) ∷ [])) where
-    shown : (sizes w ≡ true) × (frames_fit M map ≡ true)
-    shown = neither (sizes w) (frames_fit M map) (sym none)
-
-    passed : refusal later ≡ call_refusal M map s e
+module _ (M : Machine) (map : List ℕ) (s : State) (e : Event) where
+  module _ (sizes : (ranges_fit M && lengths_fit M map s.shadow s.slots) ≡ true) where
+    pub call_short : eqb (length s.words) (frame_words * M.frames) ≡ false → 1 ≡ call_refusal M map s e
     unfolding call_refusal refusal
-    passed = sym (simp (sym ew, shown.0, shown.1))
+    call_short q = simp (sizes, q)
 
-    pub call_triples : length s.slots ≡ 24 * M.processors
-    call_triples =
-        let h = both (ranges_fit M && lengths_fit M map s.shadow s.slots) w shown.0 in
-        (exact M map s.shadow s.slots (both (ranges_fit M) (lengths_fit M map s.shadow s.slots) h.0).1).triples
+    module _ (long : eqb (length s.words) (frame_words * M.frames) ≡ true) (frames : frames_fit M map ≡ true) (right : lawful M map s ≡ true) where
+      passed : refusal (event_tests (as_setup M s) e ++ (test 12 (too_few M) ∷ [])) ≡ call_refusal M map s e
+      unfolding call_refusal refusal
+      passed = sym (simp (sizes, long, frames, right))
 
-    pub call_unlawful : lawful M map s ≡ false → 3 ≡ call_refusal M map s e
-    unfolding refusal
-    call_unlawful q = simp q at passed
-
-    module _ (right : lawful M map s ≡ true) where
       pub call_event : {m : ℕ} → m ≡ event_refusal (as_setup M s) e → (m ≡ 0 → ⊥) → m ≡ call_refusal M map s e
-      unfolding refusal event_refusal
-      call_event em some = refusal_more (event_tests (as_setup M s) e) (test 12 (too_few M) ∷ []) em some ∙ (simp right at passed)
+      unfolding event_refusal
+      call_event em some = refusal_more (event_tests (as_setup M s) e) (test 12 (too_few M) ∷ []) em some ∙ passed
 
-      module _ (fits : 0 ≡ event_refusal (as_setup M s) e) where
-        last : refusal (test 12 (too_few M) ∷ []) ≡ call_refusal M map s e
-        unfolding refusal
-        last =
-            sym (refusal_then (event_tests (as_setup M s) e) (test 12 (too_few M) ∷ []) (event_clear (as_setup M s) e (sym fits)))
-            ∙ (simp right at passed)
+      -- the last test decides
+      pub call_last : 0 < M.share → 0 ≡ event_refusal (as_setup M s) e → cond (ltb (M.tables.levels - 1) M.share) 0 12 ≡ call_refusal M map s e
+      unfolding refusal
+      call_last some fits =
+          enough (dec_lt (M.tables.levels - 1) M.share)
+          ∙ sym (refusal_then (event_tests (as_setup M s) e) (test 12 (too_few M) ∷ []) (event_clear (as_setup M s) e (sym fits)))
+          ∙ passed
+        where
+          enough : Dec (M.tables.levels - 1 < M.share) → cond (ltb (M.tables.levels - 1) M.share) 0 12 ≡ refusal (test 12 (too_few M) ∷ [])
+          enough (yes h) = simp (lt-ltb (M.tables.levels - 1) M.share h, le-ltb (M.share - 1) (M.tables.levels - 1) (omega arith))
+          enough (no h) = simp (le-ltb (M.tables.levels - 1) M.share (omega arith), lt-ltb (M.share - 1) (M.tables.levels - 1) (omega arith))
 
-        pub call_few : M.share - 1 < M.tables.levels - 1 → 12 ≡ call_refusal M map s e
-        unfolding refusal
-        call_few h = simp (lt-ltb (M.share - 1) (M.tables.levels - 1) h) at last
-
-        pub call_accepted : M.tables.levels - 1 ≤ M.share - 1 → 0 ≡ call_refusal M map s e
-        unfolding refusal
-        call_accepted h = simp (le-ltb (M.share - 1) (M.tables.levels - 1) h) at last
+      pub call_accepted : 0 < M.share → M.tables.levels ≤ M.share → 0 ≡ event_refusal (as_setup M s) e → 0 ≡ call_refusal M map s e
+      call_accepted some spare fits =
+          let enough = lt-ltb (M.tables.levels - 1) M.share (omega arith) in
+          ap (λ (b : Bool). cond b 0 12) (sym enough) ∙ call_last some fits
 
 -- ---- an accepted call
 
@@ -274,14 +258,11 @@ module _ (M : Machine) (map : List ℕ) (s : State) (e : Event) where
 
 -- ---- what the functions ask for
 
-pub call_sized : (z : Sizes) (map : List ℕ) (s : State) (e : Event) {w : Bool} (ew : w ≡ eqb (length s.words) (frame_words * z.frames))
-    → 0 ≡ refusal (test 1 (not (sizes (machine64 z) map s e ew w)) ∷ test 2 (not (frames_fit (machine64 z) map)) ∷ []) → Sized z
+pub frames_sized : (z : Sizes) (map : List ℕ) → ranges_fit (machine64 z) ≡ true → frames_fit (machine64 z) map ≡ true → Sized z
 unfolding frames_fit
-call_sized z map s e {w} ew none =
-    let x = shown (machine64 z) map s e ew none in
-    let h = both (ranges_fit (machine64 z) && lengths_fit (machine64 z) map s.shadow s.slots) w x.0 in
-    let g = both (pool_fits (machine64 z) && map_fits (2 ^ 40) map) (all (length map) (λ i. not (in_pool (machine64 z) (get_or map i 0)))) x.1 in
-    sized z (ranged (machine64 z) (both (ranges_fit (machine64 z)) (lengths_fit (machine64 z) map s.shadow s.slots) h.0).0) (both (pool_fits (machine64 z)) (map_fits (2 ^ 40) map) g.0).0
+frames_sized z map ranges frames =
+    let g = both (pool_fits (machine64 z) && map_fits (2 ^ 40) map) (all (length map) (λ i. not (in_pool (machine64 z) (get_or map i 0)))) frames in
+    sized z ranges (both (pool_fits (machine64 z)) (map_fits (2 ^ 40) map) g.0).0
 
 module _ (z : Sizes) (map : List ℕ) (s : State) (e : Event) (ok : call_refusal (machine64 z) map s e ≡ 0) where
   accepted_sized : Sized z
@@ -302,13 +283,11 @@ module _ (z : Sizes) (map : List ℕ) (s : State) (e : Event) (ok : call_refusal
       let r = accepted_ranged (machine64 z) map s e ok in
       let root = root_small accepted_sized e.proc own in
       record {
-        sized = accepted_sized;
+        owner = record { sized = accepted_sized; own = own; triples = omega (arith, x.triples) };
         spare = r.share.0;
-        own = own;
         guests = omega (arith, x.guests, r.frames);
         hosts = hosts_below (2 ^ 40) (omega arith) map (accepted_map (machine64 z) map s e ok);
         pairs = x.pairs;
-        triples = omega (arith, x.triples);
         cr3 = omega (arith, accepted_frame (machine64 z) map s e ok (root_of (machine64 z) e.proc) root, r.frames);
       }
 

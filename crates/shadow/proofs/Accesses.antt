@@ -5,7 +5,7 @@ use mathlib.Core.List.{List}
 use Prim.Native.Nat.{ℕ, zero, suc, ◌-◌, ◌<◌, ◌≤◌}
 use native.Mathlib.Omega.{arith}
 use lib.Dec.{T, ltb, leb, ltb→lt, leb→le}
-use borrow.Author.Tests.{lt-ltb, le-ltb}
+use borrow.Author.Tests.{le-ltb}
 use Rattle.paging.specs.declared.Request.{Request}
 use Rattle.paging.specs.Frame.{guest, host, host_of, host_address}
 use Rattle.paging.specs.Layout.{tables64, index, page_of, frame_of, rights_of, is_present}
@@ -19,7 +19,7 @@ use Rattle.tables.specs.State.{Machine, State, table_count, root_of, entry_of, t
 use Rattle.slots.specs.Slots.{place_in, serving_slot}
 use Rattle.tables.proofs.Names.{named_small}
 use Rattle.shadow.specs.declared.Answer.TheVariants.{Address}
-use Rattle.shadow.specs.Answer.{Result, gives}
+use Rattle.shadow.specs.Answer.{Reply, gives}
 use Rattle.shadow.specs.Access.{after_miss, after_access}
 
 small : ℕ → Bool
@@ -59,7 +59,7 @@ path_range M pool p page l h hl =
     record { level = omega (arith, r.level); table = r.table; rights = r.rights }
 
 module _ (M : Machine) (map : List ℕ) (p a r : ℕ) (s : State) where
-  abbrev by_all : ℕ → Request → ℕ → Path → ℕ → Result
+  abbrev by_all : ℕ → Request → ℕ → Path → ℕ → Reply
   by_all page q k w e =
       cond (ltb k 8)
       (gives (Address (host_address (host_of map (guest (place_in s.slots p k))) a)) s)
@@ -76,11 +76,6 @@ module _ (M : Machine) (map : List ℕ) (p a r : ℕ) (s : State) where
         let e' = ee ∙ ap₂ (next_entry M s.shadow.pool) ep w' in
         (λ j. by_all (ep j) (eq j) (k' j) (w' j) (e' j))
 
-    pub access_slot : k < 8 → {v : ℕ} → v ≡ host_address (host_of map (guest (place_in s.slots p k))) a → gives (Address v) s ≡ after_access M map p a r s
-    access_slot h ev =
-        ap (λ (v : ℕ). gives (Address v) s) ev
-        ∙ (simp (lt-ltb k 8 h) at (spelt (path_to M s.shadow.pool p page 1) (next_entry M s.shadow.pool page (path_to M s.shadow.pool p page 1)) refl refl))
-
     module _ (none : 8 ≤ k) (w : Path) (i e : ℕ) (ew : w ≡ path_to M s.shadow.pool p page 1) (ei : i ≡ index M.tables page w.level) (ee : e ≡ entry_of M s.shadow.pool w.table i) where
       entry_is : e ≡ next_entry M s.shadow.pool page w
       entry_is = ee ∙ ap (entry_of M s.shadow.pool w.table) ei
@@ -90,5 +85,5 @@ module _ (M : Machine) (map : List ℕ) (p a r : ℕ) (s : State) where
       access_path serves ev =
           ap (λ (v : ℕ). gives (Address v) s) ev ∙ (simp (le-ltb k 8 none, serves) at (spelt w e ew entry_is))
 
-      pub access_miss : is_present e && enough q (meet w.rights (rights_of M.tables e)) ≡ false → {d : Result} → d ≡ after_miss M map p page q s → d ≡ after_access M map p a r s
+      pub access_miss : is_present e && enough q (meet w.rights (rights_of M.tables e)) ≡ false → {d : Reply} → d ≡ after_miss M map p page q s → d ≡ after_access M map p a r s
       access_miss fails ed = ed ∙ (simp (le-ltb k 8 none, fails) at (spelt w e ew entry_is))

@@ -39,6 +39,9 @@ module _ (M : Machine) where
   pub ranged_few : Ranged M → M.processors * M.share ≤ 64
   ranged_few h = mul-le-mul h.processors.1 h.share.1
 
+  pub few : ranges_fit M ≡ true → (M.processors ≤ 4) × (M.processors * M.share ≤ 64)
+  few e = let h = ranged e in (h.processors.1, ranged_few h)
+
   -- the exact lengths
   pub record Exact (map : List ℕ) (s : Shadow) (slots : List ℕ) : Type 0 where
     pub guests : length map ≡ M.frames
@@ -67,14 +70,16 @@ module _ (M : Machine) where
   pool_room e = leb-true (M.base + table_count M) (2 ^ M.tables.frame_bits) e
 
 -- the sizes that the functions ask for
-pub sized : (z : Sizes) → Ranged (machine64 z) → pool_fits (machine64 z) ≡ true → Sized z
-sized z h e = record {
-  frames = h.frames.1;
-  processors = h.processors.1;
-  some = omega (arith, h.share);
-  share = h.share.1;
-  pool = pool_room (machine64 z) e;
-}
+pub sized : (z : Sizes) → ranges_fit (machine64 z) ≡ true → pool_fits (machine64 z) ≡ true → Sized z
+sized z r e =
+    let h = ranged (machine64 z) r in
+    record {
+      frames = h.frames.1;
+      processors = h.processors.1;
+      some = omega (arith, h.share);
+      share = h.share.1;
+      pool = pool_room (machine64 z) e;
+    }
 
 -- every frame of a map that fits is below the limit; past its end stands 0
 pub hosts_below : (limit : ℕ) → 0 < limit → (map : List ℕ) → map_fits limit map ≡ true → (i : ℕ) → get_or map i 0 < limit

@@ -1,35 +1,29 @@
 -- The number of a setup, test by test; and what is known of one that is accepted.
 use mathlib.Core.Path.{◌≡◌, sym, ap, ◌∙◌}
-use mathlib.Core.Bool.{Bool, true, false, not, ◌&&◌}
+use mathlib.Core.Bool.{Bool, true, not, ◌&&◌}
 use mathlib.Core.List.{List, [], ◌∷◌}
 use Prim.Native.Nat.{ℕ, ◌+◌, ◌^◌, ◌≤◌}
 use native.Mathlib.Omega.{arith}
 use lib.Dec.{eqb}
 use lib.ListN.{length, get_or, replicate}
-use borrow.Author.Tests.{eq-eqb, ne_eqb, eqb-true, not-false}
+use borrow.Author.Tests.{eq-eqb, eqb-true, not-false}
 use Rattle.paging.specs.Frame.{map_fits, cr3s_fit}
 use Rattle.paging.specs.Numbers.{all}
 use Rattle.paging.proofs.Tests.{both}
-use Rattle.rules.specs.Refusal.{test, refusal}
+use Rattle.rules.specs.Refusal.{test}
 use Rattle.rules.proofs.Ranges.{clear}
 use Rattle.tables.specs.declared.Sizes.{Sizes}
 use Rattle.tables.specs.State.{Machine, shadow_of, State, state_of, machine64, table_count}
-use Rattle.shadow.specs.declared.Answer.TheVariants.{Done, Refused}
+use Rattle.shadow.specs.declared.Answer.TheVariants.{Done}
 use Rattle.shadow.specs.Answer.{gives}
 use Rattle.shadow.specs.Refusals.{ranges_fit, lengths_fit, pool_fits, in_pool, frames_fit, setup_refusal}
 use Rattle.shadow.specs.Setup.{rooted, after_setup}
 use Rattle.shadow.proofs.Sizing.{Ranged, ranged, pool_room, Exact, exact}
-use Rattle.shadow.proofs.Accepted.{first_two, neither}
 use Rattle.tables.specs.SizesCode.{Sized}
 
 module _ (M : Machine) (map cr3s : List ℕ) (s : State) where
   abbrev sizes : Bool
   sizes = ranges_fit M && lengths_fit M map s.shadow s.slots && eqb (length cr3s) M.processors
-
-  pub setup_early : {n : ℕ} → n ≡ refusal (test 1 (not sizes) ∷ test 2 (not (frames_fit M map)) ∷ []) → (n ≡ 0 → ⊥) → n ≡ setup_refusal M map cr3s s
-  unfolding setup_refusal
-  setup_early en some =
-      en ∙ first_two (not sizes) (not (frames_fit M map)) (test 7 (not (cr3s_fit M.frames cr3s)) ∷ []) (λ q. some (en ∙ q))
 
   -- the facts behind the first two tests
   module _ (fits : sizes ≡ true) (frames : frames_fit M map ≡ true) where
@@ -54,18 +48,6 @@ module _ (M : Machine) (map cr3s : List ℕ) (s : State) where
         let g = both (pool_fits M && map_fits (2 ^ M.tables.frame_bits) map) (all (length map) (λ i. not (in_pool M (get_or map i 0)))) frames in
         pool_room M (both (pool_fits M) (map_fits (2 ^ M.tables.frame_bits) map) g.0).0
 
-  module _ (none : 0 ≡ refusal (test 1 (not sizes) ∷ test 2 (not (frames_fit M map)) ∷ [])) where
-    pub setup_shown : (sizes ≡ true) × (frames_fit M map ≡ true)
-    setup_shown = neither sizes (frames_fit M map) (sym none)
-
-    pub setup_seven : cr3s_fit M.frames cr3s ≡ false → 7 ≡ setup_refusal M map cr3s s
-    unfolding setup_refusal refusal
-    setup_seven q = simp (setup_shown.0, setup_shown.1, q)
-
-    pub setup_none : cr3s_fit M.frames cr3s ≡ true → 0 ≡ setup_refusal M map cr3s s
-    unfolding setup_refusal refusal
-    setup_none q = simp (setup_shown.0, setup_shown.1, q)
-
   module _ (ok : setup_refusal M map cr3s s ≡ 0) where
     pub accepted_sizes : (sizes ≡ true) × (frames_fit M map ≡ true)
     unfolding setup_refusal
@@ -73,12 +55,7 @@ module _ (M : Machine) (map cr3s : List ℕ) (s : State) where
         let c = clear (test 1 (not sizes) ∷ test 2 (not (frames_fit M map)) ∷ test 7 (not (cr3s_fit M.frames cr3s)) ∷ []) (omega arith, (omega arith, (omega arith, tt))) ok in
         (not-false _ c.0, not-false _ c.1.0)
 
-  -- the two ends of a setup
-  pub setup_refused : {n : ℕ} → n ≡ setup_refusal M map cr3s s → (n ≡ 0 → ⊥) → gives (Refused n) s ≡ after_setup M map cr3s s
-  unfolding after_setup
-  setup_refused en some =
-      ap (λ (k : ℕ). gives (Refused k) s) en ∙ sym (simp (ne_eqb (setup_refusal M map cr3s s) 0 (λ q. some (en ∙ q))))
-
+  -- a setup that is accepted
   pub setup_done : setup_refusal M map cr3s s ≡ 0 → {pool records records' slots : List ℕ}
       → pool ≡ replicate (length s.shadow.pool) 0 → records ≡ replicate (length s.shadow.records) 0 → slots ≡ replicate (length s.slots) 0
       → records' ≡ rooted M cr3s records → gives Done (state_of s.words (shadow_of pool records') slots) ≡ after_setup M map cr3s s

@@ -8,6 +8,7 @@ use native.Mathlib.Omega.{arith}
 use lib.Dec.{eqb}
 use lib.ListN.{length}
 use borrow.Author.Tests.{le-ltb, ne_eqb}
+use Rattle.std.specs.Prelude.{Result}
 use Rattle.paging.specs.Layout.{frame_words}
 use Rattle.rules.specs.declared.Event.{Event}
 use Rattle.rules.specs.Refusal.{test, refusal}
@@ -19,20 +20,20 @@ use Rattle.shadow.specs.declared.Answer.{Answer}
 use Rattle.shadow.specs.After.{after}
 use Rattle.shadow.specs.Refusals.{setup_refusal}
 use Rattle.shadow.proofs.Sizing.{Ranged, ranged}
-use Rattle.shadow.specs.Answer.{Result, gives}
+use Rattle.shadow.specs.Answer.{Reply, replies}
 use Rattle.shadow.specs.Setup.{after_setup}
 use Rattle.shadow.specs.Moves.{after_store}
 use Rattle.shadow.specs.Refusals.{as_setup, ranges_fit, lengths_fit, frames_fit, too_few, call_refusal}
 
 -- ---- ANY TWO RESULTS THAT A PROMISE ALLOWS ARE EQUAL
 
-pub event_unique : (M : Machine) (map : List ℕ) (s : State) (e : Event) (r r' : Answer) (t t' : State)
-    → gives r t ≡ after M map s e → gives r' t' ≡ after M map s e → (r ≡ r') × (t ≡ t')
-event_unique M map s e r r' t t' p q = (ap (λ (x : Result). x.answer) (p ∙ sym q), ap (λ (x : Result). x.state) (p ∙ sym q))
+pub event_unique : (M : Machine) (map : List ℕ) (s : State) (e : Event) (r r' : Result Answer ℕ) (t t' : State)
+    → replies r t ≡ after M map s e → replies r' t' ≡ after M map s e → (r ≡ r') × (t ≡ t')
+event_unique M map s e r r' t t' p q = (ap (λ (x : Reply). x.answer) (p ∙ sym q), ap (λ (x : Reply). x.state) (p ∙ sym q))
 
-pub setup_unique : (M : Machine) (map cr3s : List ℕ) (s : State) (r r' : Answer) (t t' : State)
-    → gives r t ≡ after_setup M map cr3s s → gives r' t' ≡ after_setup M map cr3s s → (r ≡ r') × (t ≡ t')
-setup_unique M map cr3s s r r' t t' p q = (ap (λ (x : Result). x.answer) (p ∙ sym q), ap (λ (x : Result). x.state) (p ∙ sym q))
+pub setup_unique : (M : Machine) (map cr3s : List ℕ) (s : State) (r r' : Result Answer ℕ) (t t' : State)
+    → replies r t ≡ after_setup M map cr3s s → replies r' t' ≡ after_setup M map cr3s s → (r ≡ r') × (t ≡ t')
+setup_unique M map cr3s s r r' t t' p q = (ap (λ (x : Reply). x.answer) (p ∙ sym q), ap (λ (x : Reply). x.state) (p ∙ sym q))
 
 -- ---- NUMBER 12 IS NEVER MET
 

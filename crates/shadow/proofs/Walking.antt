@@ -1,28 +1,18 @@
 -- How a walk of the guest's tables ends: its last table and its rights are in range, and so is a fault's code. And what
 -- a miss does once the walk has ended.
 use Rattle.std.specs.Prelude.{Ok, Err}
-use mathlib.Core.Path.{◌≡◌, refl, sym, ap, ◌∙◌}
-use mathlib.Core.Bool.{true, false}
+use mathlib.Core.Path.{◌≡◌, refl, ap}
 use mathlib.Core.List.{List}
-use Prim.Native.Nat.{ℕ, zero, suc, ◌+◌, ◌<◌, ◌≤◌}
+use Prim.Native.Nat.{ℕ, zero, suc, ◌<◌, ◌≤◌}
 use native.Mathlib.Omega.{arith}
 use Rattle.paging.specs.declared.Guest.{Guest}
-use Rattle.paging.specs.declared.Request.{Request}
 use Rattle.paging.specs.declared.Walk.{Walk}
-use Rattle.paging.specs.declared.Stop.{Stop}
 use Rattle.paging.specs.declared.Stop.TheVariants.{Absent, Beyond, Complete}
 use Rattle.paging.specs.Layout.{Layout, get, put, index, with_a, rights_of}
-use Rattle.paging.specs.Request.{enough}
 use Rattle.paging.specs.Walk.{Step, base_of, start, step}
 use Rattle.paging.proofs.Meets.{meet_small}
 use Rattle.paging.proofs.Steps.{goes}
-use Rattle.tables.specs.State.{Machine, State, state_of, shadows, root_of}
-use Rattle.shadow.specs.declared.Answer.TheVariants.{Fault as Faulted, Again}
-use Rattle.shadow.specs.Access.{faulted}
-use Rattle.guest.specs.GuestWalk.{Ended, whole, GuestWalk, guest_walk, by_step, walk_from, walk_guest, dirtied}
-use Rattle.shadow.specs.Answer.{Result, gives}
-use Rattle.shadow.specs.Fill.{fill}
-use Rattle.shadow.specs.Access.{after_walk, after_miss}
+use Rattle.guest.specs.GuestWalk.{Ended, GuestWalk, guest_walk, by_step, walk_from, walk_guest}
 
 abbrev pub InRange : ℕ → Ended → Type 0
 InRange limit (Ok x) = (x.last.0 < limit) × (x.walk.rights < 8)
@@ -55,29 +45,3 @@ module _ (Y : Layout) (G page limit : ℕ) (most : G ≤ limit) where
   guest_range words cr3 h e =
       let q = ap (λ (d : GuestWalk). d.ended) e in
       rw q (walk_range Y.levels words cr3 (start Y cr3) h h (omega arith))
-
-module _ (M : Machine) (map : List ℕ) (p page : ℕ) (q : Request) (s : State) where
-  abbrev ends : GuestWalk → Result
-  ends d = after_walk M map p page q (state_of d.words s.shadow s.slots) d.ended
-
-  module _ {root : ℕ} {cr3 : Guest} {words : List ℕ} {r : Ended} (er : root ≡ root_of M p) (ec : cr3 ≡ shadows s.shadow.records root)
-      (ed : guest_walk words r ≡ walk_guest M.tables M.frames page s.words cr3) where
-    spelt : {r' : Ended} → r ≡ r' → ends (guest_walk words r') ≡ after_miss M map p page q s
-    unfolding after_miss
-    spelt same =
-        ap (λ (x : Ended). ends (guest_walk words x)) (sym same)
-        ∙ ap ends (ed ∙ ap (walk_guest M.tables M.frames page s.words) (ec ∙ ap (shadows s.shadow.records) er))
-
-    pub miss_fault : {stop : Stop} → r ≡ Err stop → gives (Faulted (base_of stop + q.adds)) (faulted M p page (state_of words s.shadow s.slots)) ≡ after_miss M map p page q s
-    miss_fault same = spelt same
-
-    pub miss_lacks : {last : Guest} {w : Walk} → r ≡ whole last w → enough q w.rights ≡ false
-        → gives (Faulted (1 + q.adds)) (faulted M p page (state_of words s.shadow s.slots)) ≡ after_miss M map p page q s
-    miss_lacks same lacks = simp lacks at (spelt same)
-
-    pub miss_fills : {last : Guest} {w : Walk} → r ≡ whole last w → enough q w.rights ≡ true → {words' : List ℕ} {s' : State}
-        → words' ≡ dirtied M.tables q page last words → s' ≡ fill M map p page (state_of words' s.shadow s.slots)
-        → gives Again s' ≡ after_miss M map p page q s
-    miss_fills same serves ew es =
-        ap (gives Again) (es ∙ ap (λ (x : List ℕ). fill M map p page (state_of x s.shadow s.slots)) ew)
-        ∙ (simp serves at (spelt same))

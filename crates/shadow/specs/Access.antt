@@ -9,7 +9,7 @@ use Rattle.tables.specs.State.{Machine, State, state_of, shadows, root_of, next_
 use Rattle.slots.specs.Slots.{slot_count, place_in, serving_slot}
 use Rattle.guest.specs.GuestWalk.{Ended, walk_guest, dirtied}
 use Rattle.shadow.specs.declared.Answer.TheVariants.{Address, Fault as Faulted, Again}
-use Rattle.shadow.specs.Answer.{Result, gives}
+use Rattle.shadow.specs.Answer.{Reply, gives}
 use Rattle.shadow.specs.Fill.{fill}
 
 module _ (M : Machine) where
@@ -18,7 +18,7 @@ module _ (M : Machine) where
   faulted p page s = s
 
   -- "A fault answers kind 2 with the code"; "A completed walk that lacks a needed right gives base code 1."
-  abbrev pub after_walk : List ℕ → ℕ → ℕ → Request → State → Ended → Result
+  abbrev pub after_walk : List ℕ → ℕ → ℕ → Request → State → Ended → Reply
   after_walk map p page q s (Err stop) = gives (Faulted (base_of stop + q.adds)) (faulted p page s)
   after_walk map p page q s (Ok x) =
       cond (enough q x.walk.rights)
@@ -26,7 +26,7 @@ module _ (M : Machine) where
       (gives (Faulted (1 + q.adds)) (faulted p page s))
 
   -- "Else the guest tables are walked."
-  unfoldable pub after_miss : List ℕ → ℕ → ℕ → Request → State → Result
+  unfoldable pub after_miss : List ℕ → ℕ → ℕ → Request → State → Reply
   after_miss map p page q s =
       let cr3 = shadows s.shadow.records (root_of M p) in
       let d = walk_guest M.tables M.frames page s.words cr3 in
@@ -34,7 +34,7 @@ module _ (M : Machine) where
 
   -- "Access: the lowest slot with a complete walk of the page and enough rights answers; else a present shadow path with
   -- enough rights answers. Neither changes anything."
-  unfoldable pub after_access : List ℕ → ℕ → ℕ → ℕ → State → Result
+  unfoldable pub after_access : List ℕ → ℕ → ℕ → ℕ → State → Reply
   after_access map p a r s =
       let page = page_of M.tables a in
       let q = request_of M.tables r in

@@ -1,17 +1,16 @@
 -- "What each event does", but for access: store, INVLPG, CR3 write, begin, extend, drop.
-use Rattle.std.specs.Prelude.{cond, ◌&&◌, List, ℕ, ◌+◌, ◌-◌, eqb, ltb, set, Option, Some, None}
+use Rattle.std.specs.Prelude.{cond, ◌&&◌, List, Option, Some, None, ℕ, ◌+◌, ◌-◌, eqb, ltb, set}
+use Rattle.paging.specs.declared.Guest.{Guest}
 use Rattle.paging.specs.Frame.{guest, host, origin_of}
 use Rattle.paging.specs.Layout.{index, page_of, frame_of, rights_of, is_present}
 use Rattle.paging.specs.Walk.{meet}
 use Rattle.rules.specs.declared.Event.{Event}
 use Rattle.rules.specs.History.{is_store, is_invlpg, is_cr3_write, is_access, is_begin, is_extend}
-use Rattle.tables.specs.State.{Machine, on_pool, on_records, State, state_of, with_record, table_count, root_of, entry_of, with_entry, named, path_to}
+use Rattle.tables.specs.State.{Machine, on_pool, on_records, State, state_of, with_record, table_count, root_of, entry_of, with_entry, named_some, path_to}
 use Rattle.slots.specs.Slots.{mark_of, page_in, place_in, rights_in, with_slot, emptied, flush, empty_slots}
 use Rattle.tables.specs.Steps.{empty_share}
 use Rattle.shadow.specs.declared.Answer.TheVariants.{Done, NoStep}
-use Rattle.shadow.specs.declared.Place.{Place}
-use Rattle.shadow.specs.declared.Place.TheVariants.{At, Off}
-use Rattle.shadow.specs.Answer.{Result, gives}
+use Rattle.shadow.specs.Answer.{Reply, gives}
 
 -- what an event asks of the machine
 pub data Move : Type 0 where
@@ -35,20 +34,20 @@ decode e =
     (cond (is_extend e) (extend e.a) (drop e.a))))))
 
 -- by whether a walk has a place to move to
-abbrev pub by_place : Place → (ℕ → Result) → Result → Result
-by_place (At x) on off = on x
-by_place Off on off = off
+abbrev pub by_place : Option ℕ → (ℕ → Reply) → Reply → Reply
+by_place (Some x) on off = on x
+by_place None on off = off
 
-abbrev pub place_of : Option Guest → Place
-place_of (Some g) = At g.0
-place_of None = Off
+abbrev pub place_of : Option Guest → Option ℕ
+place_of (Some g) = Some g.0
+place_of None = None
 
 -- "Store: the word only. Tables are not guarded."
-abbrev pub after_store : ℕ → ℕ → State → Result
+abbrev pub after_store : ℕ → ℕ → State → Reply
 after_store a b s = gives Done (state_of (set s.words a b) s.shadow s.slots)
 
 -- "Drop: emptied, kind 0."
-unfoldable pub after_drop : ℕ → ℕ → State → Result
+unfoldable pub after_drop : ℕ → ℕ → State → Reply
 after_drop p k s = gives Done (state_of s.words s.shadow (emptied p k s.slots))
 
 module _ (M : Machine) where
@@ -59,13 +58,13 @@ module _ (M : Machine) where
       cond (ltb t (table_count M)) (with_entry M t (index M.tables page 1) 0 pool) pool
 
   -- "INVLPG: … Then the flush of v"
-  unfoldable pub after_invlpg : ℕ → ℕ → State → Result
+  unfoldable pub after_invlpg : ℕ → ℕ → State → Reply
   after_invlpg p a s =
       let page = page_of M.tables a in
       gives Done (state_of s.words (on_pool (leaf_cleared p page) s.shadow) (flush p page s.slots))
 
   -- "CR3 write: all tables of p freed, root set up anew, all slots of p emptied."
-  unfoldable pub after_cr3 : ℕ → ℕ → State → Result
+  unfoldable pub after_cr3 : ℕ → ℕ → State → Reply
   after_cr3 p f s =
       gives Done
       (state_of s.words
@@ -73,20 +72,20 @@ module _ (M : Machine) where
       (empty_slots p s.slots))
 
   -- "Begin: the slot holds a partial walk on the root, rights 7."
-  unfoldable pub after_begin : ℕ → ℕ → ℕ → State → Result
+  unfoldable pub after_begin : ℕ → ℕ → ℕ → State → Reply
   after_begin p a k s =
       gives Done
       (state_of s.words s.shadow
       (with_slot p k (M.tables.levels + 1) (page_of M.tables a) (root_of M p) 7 s.slots))
 
   -- "place being the guest frame or the table": from level 1 a walk moves to the guest frame behind the entry's host frame
-  unfoldable pub place_below : List ℕ → ℕ → ℕ → Place
+  unfoldable pub place_below : List ℕ → ℕ → ℕ → Option ℕ
   place_below map l e =
       cond (eqb l 1) (place_of (origin_of map (host (frame_of M.tables e))))
-      (cond (ltb (named M e) (table_count M)) (At (named M e)) Off)
+      (named_some M e)
 
   -- "Extend: a partial slot whose shadow entry is present moves one level; else kind 4."
-  unfoldable pub after_extend : List ℕ → ℕ → ℕ → State → Result
+  unfoldable pub after_extend : List ℕ → ℕ → ℕ → State → Reply
   after_extend map p k s =
       let mark = mark_of s.slots p k in
       let page = page_in s.slots p k in

@@ -6,14 +6,18 @@ use Rattle.tables.specs.State.{machine64, record_size, table_count, root_of, sha
 use Rattle.slots.specs.Slots.{slot_count, slots_size, mark_of, place_in}
 use Rattle.tables.specs.SizesCode.{Sized}
 
-pub record Ready (z : Sizes) (map records slots : List ℕ) (p : ℕ) : Type 0 where
+-- p is one of the processors, and its slots are there
+pub record Owner (z : Sizes) (slots : List ℕ) (p : ℕ) : Type 0 where
   pub sized : Sized z
-  pub spare : 4 ≤ z.share
   pub own : p < z.processors
+  pub triples : slots_size * p + slots_size ≤ length slots
+
+pub record Ready (z : Sizes) (map records slots : List ℕ) (p : ℕ) : Type 0 where
+  pub owner : Owner z slots p
+  pub spare : 4 ≤ z.share
   pub guests : length map ≤ 256
   pub hosts : (i : ℕ) → get_or map i 0 < 2 ^ 40
   pub pairs : length records ≡ record_size * table_count (machine64 z)
-  pub triples : slots_size * p + slots_size ≤ length slots
   pub cr3 : (shadows records (root_of (machine64 z) p)).0 < 2 ^ 40
 
 -- a partial slot has a level, and stands on a table

@@ -1,5 +1,5 @@
 -- A run of the machine: its state at each moment, and its answer to each event.
-use Rattle.std.specs.Prelude.{List, ℕ, zero, suc}
+use Rattle.std.specs.Prelude.{List, Result, ℕ, zero, suc}
 use Rattle.rules.specs.declared.Event.{Event}
 use Rattle.rules.specs.History.{event_at}
 use Rattle.tables.specs.State.{Machine, State}
@@ -13,5 +13,5 @@ module _ (M : Machine) (map : List ℕ) (start : State) (es : List Event) where
   state_after (suc k) = (after M map (state_after k) (event_at es k)).state
 
   -- the answer to the event that leads from moment k to the next one
-  abbrev pub answer_of : ℕ → Answer
+  abbrev pub answer_of : ℕ → Result Answer ℕ
   answer_of k = (after M map (state_after k) (event_at es k)).answer

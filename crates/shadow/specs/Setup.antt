@@ -5,8 +5,8 @@ use Rattle.paging.specs.Layout.{frame_words}
 use Rattle.paging.specs.Numbers.{each}
 use Rattle.tables.specs.State.{record_size, Machine, shadow_of, State, state_of, with_record, table_count, root_of}
 use Rattle.slots.specs.Slots.{slots_size}
-use Rattle.shadow.specs.declared.Answer.TheVariants.{Done, Refused}
-use Rattle.shadow.specs.Answer.{Result, gives}
+use Rattle.shadow.specs.declared.Answer.TheVariants.{Done}
+use Rattle.shadow.specs.Answer.{Reply, gives, refuses}
 use Rattle.shadow.specs.Refusals.{setup_refusal}
 
 module _ (M : Machine) where
@@ -21,7 +21,7 @@ module _ (M : Machine) where
       (shadow_of (replicate (frame_words * table_count M) 0) (rooted cr3s (replicate (record_size * table_count M) 0)))
       (replicate (slots_size * M.processors) 0)
 
-  unfoldable pub after_setup : List ℕ → List ℕ → State → Result
+  unfoldable pub after_setup : List ℕ → List ℕ → State → Reply
   after_setup map cr3s s =
       let n = setup_refusal M map cr3s s in
-      cond (eqb n 0) (gives Done (started cr3s s.words)) (gives (Refused n) s)
+      cond (eqb n 0) (gives Done (started cr3s s.words)) (refuses n s)

@@ -9,11 +9,11 @@ ghost use Rattle.shadow.specs.Access.{after_miss, after_access};
 ghost use Rattle.shadow.specs.ReadyCode.{Ready};
 
 use crate::{Answer, fill};
-use guest::Walked;
 use paging::{Guest, Host, Request};
 use tables::{Path, Sizes};
 
 // Neither slot nor shadow answers: the guest's tables are walked.
+#[tactic(auto, unfolding(crate::specs::Access::after_miss))]
 fn miss(
     map: &[u64],
     words: &mut [u64],
@@ -31,12 +31,12 @@ fn miss(
 {
     let cr3 = tables::shadowed_by(records, tables::root_of(z, p));
     match guest::walk_guest(words, z.frames, cr3, page) {
-        Walked::Fault(base) => Answer::Fault(base + q.adds),
-        Walked::Whole(last, w) => {
-            if !paging::has_enough(q, w.rights) {
+        Err(stop) => Answer::Fault(stop.base_code() + q.adds),
+        Ok(walked) => {
+            if !paging::has_enough(q, walked.walk.rights) {
                 return Answer::Fault(1 + q.adds);
             }
-            guest::set_d(words, q, page, last);
+            guest::set_d(words, q, page, walked.last);
             fill::fill(map, words, pool, records, slots, z, p, page);
             Answer::Again
         }
@@ -47,12 +47,11 @@ fn path_serves(w: Path, e: u64, q: Request) -> bool
     requires { (w.rights < 8) × (q.needs < 8) }
     ensures { result ≡ (is_present e && enough q (meet w.rights (rights_of tables64 e))) }
 {
-    if !paging::present(e) {
-        return false;
-    }
-    paging::has_enough(q, paging::shared_rights(w.rights, paging::rights_of(e)))
+    paging::present(e)
+        && paging::has_enough(q, paging::shared_rights(w.rights, paging::rights_of(e)))
 }
 
+#[tactic(auto, unfolding(crate::specs::Access::after_access))]
 pub fn access(
     map: &[u64],
     words: &mut [u64],
@@ -70,13 +69,9 @@ pub fn access(
 {
     let page = paging::page_of(a);
     let q = paging::request_of(request);
-    let k = slots::serving_slot(slots, p, page, q);
-    if k < slots::SLOTS {
-        let at = slots::slot_at(p, k);
-        return Answer::Address(paging::host_address(
-            paging::host_of(map, Guest(slots[at + 2] / 8)),
-            a,
-        ));
+    if let Some(k) = slots::serving_slot(slots, p, page, q) {
+        let place = Guest(slots::slot_of(slots, p, k).place);
+        return Answer::Address(paging::host_address(paging::host_of(map, place), a));
     }
     let w = tables::path_to(pool, z, p, page, 1);
     let e = paging::entry_at(pool, w.table, paging::index_of(page, 1));

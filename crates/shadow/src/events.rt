@@ -1,14 +1,14 @@
 // Every event but access: store, INVLPG, CR3 write, begin, extend, drop.
-ghost use Rattle.std.specs.Prelude.{◌≡◌, List, ℕ, ◌+◌, ◌*◌, ◌<◌, ◌≤◌, length};
-ghost use Rattle.slots.specs.Slots.{slot_count, slots_size};
+ghost use Rattle.std.specs.Prelude.{◌≡◌, List, ℕ, ◌<◌, ◌≤◌, length};
+ghost use Rattle.slots.specs.Slots.{slot_count, HasSlots};
 ghost use Rattle.tables.specs.State.{Shadow, shadow_of, state_of, machine64};
 ghost use Rattle.tables.specs.SizesCode.{Sized, Room};
 ghost use Rattle.shadow.specs.Answer.{gives};
 ghost use Rattle.shadow.specs.Moves.{after_store, leaf_cleared, after_invlpg, after_cr3, after_begin, place_below, after_extend, after_drop};
-ghost use Rattle.shadow.specs.ReadyCode.{Standing};
+ghost use Rattle.shadow.specs.ReadyCode.{Owner, Standing};
 
-use crate::{Answer, Place};
-use paging::{Guest, Host, Origin};
+use crate::Answer;
+use paging::{Guest, Host};
 use tables::Sizes;
 
 pub fn store(words: &mut [u64], a: u64, b: u64) -> Answer
@@ -20,6 +20,7 @@ pub fn store(words: &mut [u64], a: u64, b: u64) -> Answer
 }
 
 // Clears the page's level 1 entry, if one is reached.
+#[tactic(auto, unfolding(crate::specs::Moves::leaf_cleared))]
 fn clear_leaf(pool: &mut [u64], z: Sizes, p: u64, page: u64)
     requires { Sized z × (p < z.processors) }
     ensures { pool.new ≡ leaf_cleared (machine64 z) p page pool.old }
@@ -30,8 +31,9 @@ fn clear_leaf(pool: &mut [u64], z: Sizes, p: u64, page: u64)
     }
 }
 
+#[tactic(auto, unfolding(crate::specs::Moves::after_invlpg))]
 pub fn invlpg(pool: &mut [u64], slots: &mut [u64], z: Sizes, p: u64, a: u64) -> Answer
-    requires { Sized z × (p < z.processors) × (slots_size * p + slots_size ≤ length slots.old) }
+    requires { Owner z slots.old p }
     ensures { (w records : List ℕ) → gives result (state_of w (shadow_of pool.new records) slots.new) ≡ after_invlpg (machine64 z) p a (state_of w (shadow_of pool.old records) slots.old) }
 {
     let page = paging::page_of(a);
@@ -40,6 +42,7 @@ pub fn invlpg(pool: &mut [u64], slots: &mut [u64], z: Sizes, p: u64, a: u64) -> 
     Answer::Done
 }
 
+#[tactic(auto, unfolding(crate::specs::Moves::after_cr3))]
 pub fn write_cr3(
     pool: &mut [u64],
     records: &mut [u64],
@@ -48,8 +51,8 @@ pub fn write_cr3(
     p: u64,
     f: u64,
 ) -> Answer
+    requires owner { Owner z slots.old p }
     requires room { Room z records.old }
-    requires p_lt_processors { (p < z.processors) × (slots_size * p + slots_size ≤ length slots.old) }
     ensures { (w : List ℕ) → gives result (state_of w (shadow_of pool.new records.new) slots.new) ≡ after_cr3 (machine64 z) p f (state_of w (shadow_of pool.old records.old) slots.old) }
 {
     tables::empty_share(pool, records, z, p);
@@ -58,61 +61,58 @@ pub fn write_cr3(
     Answer::Done
 }
 
+#[tactic(auto, unfolding(crate::specs::Moves::after_begin))]
 pub fn begin(slots: &mut [u64], z: Sizes, p: u64, a: u64, k: u64) -> Answer
-    requires { Sized z × (p < z.processors) × (slots_size * p + slots_size ≤ length slots.old) × (k < slot_count) }
+    requires owner { Owner z slots.old p }
+    requires slot { k < slot_count }
     ensures { (w : List ℕ) (h : Shadow) → gives result (state_of w h slots.new) ≡ after_begin (machine64 z) p a k (state_of w h slots.old) }
 {
     slots::set_slot(slots, p, k, 5, paging::page_of(a), tables::root_of(z, p), 7);
     Answer::Done
 }
 
+#[tactic(auto, unfolding(crate::specs::Moves::after_drop))]
 pub fn drop_slot(slots: &mut [u64], p: u64, k: u64) -> Answer
-    requires { (p < 4) × (slots_size * p + slots_size ≤ length slots.old) × (k < slot_count) }
+    requires { HasSlots p slots.old × (k < slot_count) }
     ensures { (w : List ℕ) (h : Shadow) → gives result (state_of w h slots.new) ≡ after_drop p k (state_of w h slots.old) }
 {
-    slots::set_slot(slots, p, k, 0, 0, 0, 0);
+    slots::empty_slot(slots, p, k);
     Answer::Done
 }
 
-// Where a walk moves to from an entry of a level: the guest frame or the table.
-fn place_below(map: &[u64], z: Sizes, level: u64, e: u64) -> Place
+// Where a walk moves to from an entry of a level: the guest frame or the table, if there is one.
+#[tactic(auto, unfolding(crate::specs::Moves::place_below))]
+fn place_below(map: &[u64], z: Sizes, level: u64, e: u64) -> Option<u64>
     requires { Sized z }
     ensures { result ≡ place_below (machine64 z) map.now level e }
 {
     if level == 1 {
-        return match paging::origin_of(map, Host(paging::frame_of(e))) {
-            Origin::Of(g) => Place::At(g.0),
-            Origin::Nowhere => Place::Off,
-        };
+        return paging::origin_of(map, Host(paging::frame_of(e))).map(|g| g.0);
     }
-    let u = tables::named_by(z, e);
-    if u < tables::table_count(z) {
-        Place::At(u)
-    } else {
-        Place::Off
-    }
+    tables::named_by(z, e)
 }
 
+#[tactic(auto, unfolding(crate::specs::Moves::after_extend))]
 pub fn extend(map: &[u64], pool: &[u64], slots: &mut [u64], z: Sizes, p: u64, k: u64) -> Answer
-    requires { Sized z × (p < z.processors) × (slots_size * p + slots_size ≤ length slots.old) × (k < slot_count) × (length map.now ≤ 256) × Standing slots.old p k }
+    requires owner { Owner z slots.old p }
+    requires slot { k < slot_count }
+    requires guests { length map.now ≤ 256 }
+    requires stands { Standing slots.old p k }
     ensures { (w records : List ℕ) → gives result (state_of w (shadow_of pool.now records) slots.new) ≡ after_extend (machine64 z) map.now p k (state_of w (shadow_of pool.now records) slots.old) }
 {
-    let at = slots::slot_at(p, k);
-    let mark = slots[at];
-    if mark < 2 {
+    let slot = slots::slot_of(slots, p, k);
+    if slot.mark < 2 {
         return Answer::NoStep;
     }
-    let page = slots[at + 1];
-    let e = paging::entry_at(pool, slots[at + 2] / 8, paging::index_of(page, mark - 1));
+    let level = slot.mark - 1;
+    let e = paging::entry_at(pool, slot.place, paging::index_of(slot.page, level));
     if !paging::present(e) {
         return Answer::NoStep;
     }
-    let rights = paging::shared_rights(slots[at + 2] % 8, paging::rights_of(e));
-    match place_below(map, z, mark - 1, e) {
-        Place::At(place) => {
-            slots::set_slot(slots, p, k, mark - 1, page, place, rights);
-            Answer::Done
-        }
-        Place::Off => Answer::NoStep,
-    }
+    let Some(place) = place_below(map, z, level, e) else {
+        return Answer::NoStep;
+    };
+    let rights = paging::shared_rights(slot.rights, paging::rights_of(e));
+    slots::set_slot(slots, p, k, level, slot.page, place, rights);
+    Answer::Done
 }

@@ -6,6 +6,7 @@ ghost use Rattle.shadow.specs.ReadyCode.{Ready};
 
 use tables::{Sizes, Spot};
 
+#[tactic(auto, unfolding(crate::specs::Fill::fill))]
 pub fn fill(
     map: &[u64],
     words: &[u64],
@@ -26,14 +27,12 @@ pub fn fill(
         table: root,
         frame: cr3,
     };
-    let w = tables::settle(words, pool, records, z, page, top);
-    if tables::count_free(records, z, p) < w.missing {
+    let mut from = tables::settle(words, pool, records, z, page, top);
+    if tables::count_free(records, z, p) < from.missing {
         tables::empty_share(pool, records, z, p);
         slots::empty_slots(slots, p);
-        tables::build_path(map, words, pool, records, z, p, page, top);
-        slots::flush(slots, p, page);
-    } else {
-        tables::build_path(map, words, pool, records, z, p, page, w);
-        slots::flush(slots, p, page);
+        from = top;
     }
+    tables::build_path(map, words, pool, records, z, p, page, from);
+    slots::flush(slots, p, page);
 }

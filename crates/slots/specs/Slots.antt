@@ -3,6 +3,7 @@ use Rattle.std.specs.Prelude.{Bool, cond, ◌&&◌, ◌||◌, List, ℕ, ◌+◌
 use Rattle.paging.specs.declared.Request.{Request}
 use Rattle.paging.specs.Request.{enough}
 use Rattle.paging.specs.Numbers.{each, first}
+use Rattle.slots.specs.declared.Slot.{Slot}
 
 -- "8 hardware TLB slots"
 abbrev pub slot_count : ℕ
@@ -35,6 +36,9 @@ place_in slots p k = get_or slots (slot_at p k + 2) 0 / 8
 
 abbrev pub rights_in : List ℕ → ℕ → ℕ → ℕ
 rights_in slots p k = get_or slots (slot_at p k + 2) 0 % 8
+
+abbrev pub slot_of : List ℕ → ℕ → ℕ → Slot
+slot_of slots p k = record { mark = mark_of slots p k; page = page_in slots p k; place = place_in slots p k; rights = rights_in slots p k }
 
 abbrev pub with_slot : ℕ → ℕ → ℕ → ℕ → ℕ → ℕ → List ℕ → List ℕ
 with_slot p k mark page place rights slots =

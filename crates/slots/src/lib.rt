@@ -2,9 +2,19 @@
 #![tactic(auto)]
 
 ghost use Rattle.std.specs.Prelude.{◌≡◌, ◌^◌, ◌<◌, ◌≤◌, MatchOption};
-ghost use Rattle.slots.specs.Slots.{slot_count, HasSlots, slot_at, with_slot, emptied, slot_serves, serving_slot, goes_with, flushed, flush, empty_slots};
+ghost use Rattle.slots.specs.Slots.{slot_count, HasSlots, slot_at, slot_of, with_slot, emptied, slot_serves, serving_slot, goes_with, flushed, flush, empty_slots};
 
 use paging::Request;
+
+// What a slot says: its mark (0 empty, 1 complete, level + 1 partial), its page, and the place and rights of its walk.
+// Kept: the mark is the buffer's number; an enum would only be read off it in the two matches that ask for it.
+#[derive(Clone, Copy)]
+pub struct Slot {
+    pub mark: u64,
+    pub page: u64,
+    pub place: u64,
+    pub rights: u64,
+}
 
 // "8 hardware TLB slots", of three numbers each: 24 numbers to a processor.
 pub const SLOTS: u64 = 8;
@@ -19,6 +29,19 @@ pub fn slot_at(p: u64, k: u64) -> usize
     ensures { result ≡ slot_at p k }
 {
     (SLOTS_SIZE * p + SLOT_SIZE * k) as usize
+}
+
+pub fn slot_of(slots: &[u64], p: u64, k: u64) -> Slot
+    requires { HasSlots p slots.now × (k < slot_count) }
+    ensures { result ≡ slot_of slots.now p k }
+{
+    let at = slot_at(p, k);
+    Slot {
+        mark: slots[at],
+        page: slots[at + 1],
+        place: slots[at + 2] / 8,
+        rights: slots[at + 2] % 8,
+    }
 }
 
 pub fn set_slot(slots: &mut [u64], p: u64, k: u64, mark: u64, page: u64, place: u64, rights: u64)
@@ -42,8 +65,8 @@ fn slot_serves(slots: &[u64], p: u64, page: u64, q: Request, k: u64) -> bool
     requires { HasSlots p slots.now × (k < slot_count) × (q.needs < 8) }
     ensures { result ≡ slot_serves slots.now p page q k }
 {
-    let at = slot_at(p, k);
-    slots[at] == 1 && slots[at + 1] == page && paging::has_enough(q, slots[at + 2] % 8)
+    let s = slot_of(slots, p, k);
+    s.mark == 1 && s.page == page && paging::has_enough(q, s.rights)
 }
 
 // The lowest slot with a complete walk of the page and enough rights.
@@ -59,8 +82,8 @@ fn goes_with(slots: &[u64], p: u64, page: u64, k: u64) -> bool
     requires { HasSlots p slots.now × (k < slot_count) }
     ensures { result ≡ goes_with slots.now p page k }
 {
-    let at = slot_at(p, k);
-    slots[at] > 1 || slots[at] == 1 && slots[at + 1] == page
+    let s = slot_of(slots, p, k);
+    s.mark > 1 || s.mark == 1 && s.page == page
 }
 
 #[tactic(auto, unfolding(crate::specs::Slots::flushed))]

@@ -7,11 +7,13 @@ use native.Mathlib.Omega.{arith}
 use lib.Dec.{ltb}
 use borrow.Author.Tests.{ltb-true}
 use Rattle.paging.specs.declared.Guest.{Guest}
+use Rattle.std.specs.Prelude.{Some, None}
 use Rattle.paging.specs.Frame.{guest}
-use Rattle.paging.specs.Layout.{index, frame_of, rights_of}
+use Rattle.paging.specs.Layout.{index, frame_of}
 use Rattle.tables.specs.declared.Spot.{Spot}
 use Rattle.tables.specs.State.{Machine, Shadow, on_pool, with_entry, entry_of, named, table_count}
-use Rattle.tables.specs.Steps.{Settled, settled_at, spot, cut, taken, hang, leaf_of, agrees, settle, hang_next, build}
+use Rattle.tables.specs.Steps.{Settled, settled_at, spot, cut, leaf_of, agrees, agreeing, settle, hang_next, build}
+use Rattle.tables.proofs.Names.{some_is, none_is}
 use Rattle.guest.specs.GuestWalk.{guest_entry}
 
 first_of_three : (a b c : Bool) → a && b && c ≡ true → a ≡ true
@@ -21,6 +23,11 @@ first_of_three false b c e = e
 -- an entry that agrees names a table
 pub agrees-named : (M : Machine) (records : List ℕ) (h e : ℕ) → agrees M records h e ≡ true → named M h < table_count M
 agrees-named M records h e same = ltb-true (named M h) (table_count M) (first_of_three (ltb (named M h) (table_count M)) _ _ same)
+
+pub agreeing-named : (M : Machine) (records : List ℕ) (h e u : ℕ) → Some u ≡ agreeing M records h e → u < table_count M
+agreeing-named M records h e u q =
+    let (same-is, eu) = some_is (agrees M records h e) (named M h) u q in
+    let n = agrees-named M records h e same-is in omega arith
 
 module _ (M : Machine) (words : List ℕ) (page : ℕ) where
   -- the guest's entry for a table with m tables below it
@@ -58,35 +65,23 @@ module _ (M : Machine) (words : List ℕ) (page : ℕ) where
       tested = ap₂ (agrees M s.records) (sym eh) (sym ee)
 
       -- the entries agree
-      pub settle-on : agrees M s.records h e ≡ true → {u f : ℕ} → u ≡ named M h → f ≡ frame_of M.tables e
+      pub settle-on : {u f : ℕ} → Some u ≡ agreeing M s.records h e → f ≡ frame_of M.tables e
           → settle M words page (m - 1) u (guest f) s ≡ settle M words page m t g s
-      settle-on same eu ef =
+      settle-on {u = u} same ef =
+          let (same-is, eu) = some_is (agrees M s.records h e) (named M h) u same in
           (λ j. settle M words page (m - 1) ((eu ∙ ap (named M) eh) j) (guest ((ef ∙ ap (frame_of M.tables) ee) j)) s)
           ∙ sym (settle-by pos ∙ ap (λ (b : Bool). cond b
           (settle M words page (m - 1) (named M (shadow_at m t s)) (guest (frame_of M.tables (guest_at m g))) s)
-          (settled_at (spot m t g) (cut M m t (index M.tables page (m + 1)) s))) (tested ∙ same))
+          (settled_at (spot m t g) (cut M m t (index M.tables page (m + 1)) s))) (tested ∙ same-is))
 
       -- they do not
-      pub settle-cut : agrees M s.records h e ≡ false → {i : ℕ} {s' : Shadow} → i ≡ index M.tables page (m + 1) → s' ≡ cut M m t i s
+      pub settle-cut : None ≡ agreeing M s.records h e → {i : ℕ} {s' : Shadow} → i ≡ index M.tables page (m + 1) → s' ≡ cut M m t i s
           → settled_at (spot m t g) s' ≡ settle M words page m t g s
-      settle-cut differ ei es =
+      settle-cut differs ei es =
           ap (settled_at (spot m t g)) (es ∙ ap (λ (i : ℕ). cut M m t i s) ei)
           ∙ sym (settle-by pos ∙ ap (λ (b : Bool). cond b
           (settle M words page (m - 1) (named M (shadow_at m t s)) (guest (frame_of M.tables (guest_at m g))) s)
-          (settled_at (spot m t g) (cut M m t (index M.tables page (m + 1)) s))) (tested ∙ differ))
-
-    -- the next table is hung
-    pub hang-next : (p : ℕ) → 0 < m → {e u i f r : ℕ} {s' : Shadow} → e ≡ guest_at m g → u ≡ taken M p s.records
-        → i ≡ index M.tables page (m + 1) → f ≡ frame_of M.tables e → r ≡ rights_of M.tables e → s' ≡ hang M t i u m (guest f) r s
-        → settled_at (spot (m - 1) u (guest f)) s' ≡ hang_next M words p page (m - 1) t g s
-    hang-next p pos ee eu ei ef er es =
-        let q : m + 1 ≡ m - 1 + 2 = omega arith in
-        let w : m ≡ m - 1 + 1 = omega arith in
-        let f = ef ∙ ap (frame_of M.tables) ee in
-        let r = er ∙ ap (rights_of M.tables) ee in
-        (λ j. settled_at (spot (m - 1) (eu j) (guest (f j))) ((es ∙ (λ k. hang M t (ei k) (eu k) m (guest (f k)) (r k) s)) j))
-        ∙ ap₂ (λ (l k : ℕ). settled_at (spot (m - 1) (taken M p s.records) (guest (frame_of M.tables (guest_entry M.tables words page l g))))
-        (hang M t (index M.tables page l) (taken M p s.records) k (guest (frame_of M.tables (guest_entry M.tables words page l g))) (rights_of M.tables (guest_entry M.tables words page l g)) s)) q w
+          (settled_at (spot m t g) (cut M m t (index M.tables page (m + 1)) s))) (tested ∙ none_is (agrees M s.records h e) (named M h) differs))
 
     module _ (map : List ℕ) (p : ℕ) where
       pub build-end : m ≡ 0 → {e x i : ℕ} {s' : Shadow} → e ≡ guest_entry M.tables words page 1 g → x ≡ leaf_of M.tables map e

@@ -4,3 +4,4 @@ pub mod Paths
 pub mod Frees
 pub mod Fills
 pub mod Takes
+pub mod Zeros

@@ -5,11 +5,13 @@ use mathlib.Core.List.{List}
 use Prim.Native.Nat.{ℕ, zero, suc, ◌+◌, ◌*◌, ◌<◌, ◌≤◌}
 use native.Mathlib.Decide.{ℕ_discrete}
 use native.Mathlib.Omega.{arith}
-use lib.Dec.{eqb}
+use lib.Dec.{eqb, ltb}
+use borrow.Author.Tests.{lt-ltb, le-ltb}
 use lib.ListN.{set}
 use lib.Seq.{get_or-set_other}
 use Rattle.paging.specs.declared.Guest.{Guest}
-use Rattle.paging.specs.Numbers.{sum, count}
+use Rattle.std.specs.Prelude.{Option, Some, None, MatchOption}
+use Rattle.paging.specs.Numbers.{sum, count, first_from, first}
 use Rattle.tables.specs.State.{Machine, record_size, level_of, with_record, table_count, home_of}
 use Rattle.tables.specs.Steps.{may_take, free_count, taken}
 
@@ -44,6 +46,33 @@ count_near f g u same (suc n) = go (ℕ_discrete n u) (f n) (g n) refl refl (cou
     go (no ne) true true ea eb h = omega arith
     go (no ne) true false ea eb h = let z : true ≡ false = sym ea ∙ same n ne ∙ eb in let z : ◌≡◌ {A = ℕ} 0 1 = cc in absurd (omega arith)
     go (no ne) false b ea eb h = omega arith
+
+-- a search ends at the first number that passes, if there is one
+module _ (f : ℕ → Bool) where
+  first_is : (n i k : ℕ) → i ≤ k → k < i + n → f k ≡ true → ((j : ℕ) → i ≤ j → j < k → f j ≡ false) → first_from i n f ≡ k
+  unfolding first_from
+  first_is zero i k lo hi here before = absurd (omega arith)
+  first_is (suc n) i k lo hi here before =
+      go (ℕ_discrete i k) (λ l. first_is n (i + 1) k l (omega arith) here (λ j m h. before j (omega arith) h))
+    where
+      go : Dec (i ≡ k) → (i + 1 ≤ k → first_from (i + 1) n f ≡ k) → cond (f i) i (first_from (i + 1) n f) ≡ k
+      go (yes q) later = rw (ap f q ∙ here) q
+      go (no ne) later = rw (before i (omega arith) (omega arith)) (later (omega arith))
+
+  first_is_none : (n i : ℕ) → ((j : ℕ) → i ≤ j → j < i + n → f j ≡ false) → first_from i n f ≡ i + n
+  unfolding first_from
+  first_is_none zero i none = omega arith
+  first_is_none (suc n) i none =
+      rw (none i (omega arith) (omega arith)) (first_is_none n (i + 1) (λ j l h. none j (omega arith) (omega arith)) ∙ omega arith)
+
+  -- so says what `find` gives
+  pub first_by : (n : ℕ) (r : Option ℕ)
+      → MatchOption r ((k : ℕ) → 0 ≤ k → k < n → f k ≡ false) (λ i. (0 ≤ i) × (i < n) × (f i ≡ true) × ((k : ℕ) → 0 ≤ k → k < i → f k ≡ false))
+      → r ≡ cond (ltb (first n f) n) (Some (first n f)) None
+  first_by n None none =
+      let q : first n f ≡ n = first_is_none n 0 (λ j l h. none j l (omega arith)) ∙ omega arith in
+      sym (rw (q, le-ltb n n (omega arith)))
+  first_by n (Some i) (lo, hi, here, before) = sym (rw (first_is n 0 i lo (omega arith) here before, lt-ltb i n hi))
 
 -- ---- tables
 

@@ -1,5 +1,5 @@
 -- "Shadow state", first paragraph: what a machine is, what its buffers hold, and where each number stands in them.
-use Rattle.std.specs.Prelude.{◌≡◌, Bool, true, cond, ◌&&◌, List, ℕ, zero, suc, ◌+◌, ◌-◌, ◌*◌, ◌/◌, ◌^◌, ◌<◌, eqb, ltb, leb, get_or, set}
+use Rattle.std.specs.Prelude.{◌≡◌, Bool, true, cond, ◌&&◌, Option, Some, None, List, ℕ, zero, suc, ◌+◌, ◌-◌, ◌*◌, ◌/◌, ◌^◌, ◌<◌, eqb, ltb, leb, get_or, set}
 use Rattle.paging.specs.declared.Guest.{Guest}
 use Rattle.paging.specs.Frame.{guest}
 use Rattle.paging.specs.Layout.{Layout, tables64, get, put, index, frame_of, rights_of, is_present}
@@ -108,6 +108,10 @@ module _ (M : Machine) where
   named e =
       let f = frame_of M.tables e in
       cond (is_present e && leb M.base f && ltb (f - M.base) table_count) (f - M.base) table_count
+
+  -- the same, as an option
+  abbrev pub named_some : ℕ → Option ℕ
+  named_some e = cond (ltb (named e) table_count) (Some (named e)) None
 
   -- A path through the shadow tables, from p's root: the level of its next entry, the table, the rights of all entries
   -- passed. Where an entry names no table, the path stands on none from there on.

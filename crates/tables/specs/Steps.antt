@@ -1,5 +1,5 @@
 -- The few steps that all events are made of. Each is total: where an index or a table is none, it changes nothing.
-use Rattle.std.specs.Prelude.{Bool, cond, ◌&&◌, List, ℕ, zero, suc, ◌+◌, ◌^◌, eqb, ltb}
+use Rattle.std.specs.Prelude.{Bool, cond, ◌&&◌, Option, Some, None, List, ℕ, zero, suc, ◌+◌, ◌^◌, eqb, ltb}
 use Rattle.paging.specs.declared.Guest.{Guest}
 use Rattle.paging.specs.Frame.{guest, host_of}
 use Rattle.paging.specs.Layout.{Layout, bit, put, index, frame_of, rights_of, compose}
@@ -73,6 +73,10 @@ module _ (M : Machine) where
   unfoldable pub taken : ℕ → List ℕ → ℕ
   taken p records = M.choose.pick (table_count M) (may_take p records)
 
+  -- the same, as an option
+  abbrev pub taken_some : ℕ → List ℕ → Option ℕ
+  taken_some p records = cond (ltb (taken p records) (table_count M)) (Some (taken p records)) None
+
   -- entry i of t names u, with the guest entry's own rights r; u has a level and shadows a frame
   abbrev pub hang : ℕ → ℕ → ℕ → ℕ → Guest → ℕ → Shadow → Shadow
   hang t i u level g r s =
@@ -86,6 +90,10 @@ module _ (M : Machine) where
       ltb (named M h) (table_count M)
       && eqb (rights_of M.tables h) (rights_of M.tables e)
       && eqb (shadows records (named M h)).0 (frame_of M.tables e)
+
+  -- the table that an entry names, if it agrees
+  abbrev pub agreeing : List ℕ → ℕ → ℕ → Option ℕ
+  agreeing records h e = cond (agrees records h e) (Some (named M h)) None
 
   -- "the shadow is filled from the root": down from table t, which has n tables below it and so the level n + 1, as long
   -- as the entries agree with the guest's; "the subtree below" the first that does not "is freed and zeroed"

@@ -1,10 +1,10 @@
 // The shadow tables of all processors: what an entry and a record say, and the steps that events are made of.
-#![tactic(auto)]
+#![tactic(auto, using(crate::proofs::Names::bounds))]
 
 ghost use Rattle.std.specs.Prelude.{◌≡◌, ℕ, ◌+◌, ◌-◌, ◌*◌, ◌^◌, ◌<◌, ◌≤◌, length, get_or};
 ghost use Rattle.paging.specs.Layout.{tables64, frame_words};
-ghost use Rattle.tables.specs.State.{machine64, shadow_of, record_size, level_of, shadows, with_record, table_count, home_of, owner_of, root_of, named, down, path_to};
-ghost use Rattle.tables.specs.Steps.{free_table, cut, zeroed, empty_own, empty_share, may_take, free_count, taken, hang, hang_next, leaf_of, agrees, settle, settled_at, build};
+ghost use Rattle.tables.specs.State.{machine64, shadow_of, record_size, level_of, shadows, with_record, table_count, home_of, owner_of, root_of, named_some, down, path_to};
+ghost use Rattle.tables.specs.Steps.{free_table, cut, zeroed, empty_own, empty_share, may_take, free_count, taken, taken_some, hang, hang_next, leaf_of, agreeing, settle, settled_at, build};
 ghost use Rattle.tables.specs.SizesCode.{Sized, Room, SpotFits};
 
 use paging::Guest;
@@ -43,20 +43,14 @@ pub fn level_of(records: &[u64], t: u64) -> u64
     requires { t ≤ 64 }
     ensures { result ≡ level_of records.now t }
 {
-    let at = RECORD * (t as usize);
-    if at < records.len() { records[at] } else { 0 }
+    records.get(RECORD * t as usize).copied().unwrap_or(0)
 }
 
 pub fn shadowed_by(records: &[u64], t: u64) -> Guest
     requires { t ≤ 64 }
     ensures { result ≡ shadows records.now t }
 {
-    let at = RECORD * (t as usize) + 1;
-    if at < records.len() {
-        Guest(records[at])
-    } else {
-        Guest(0)
-    }
+    Guest(records.get(RECORD * t as usize + 1).copied().unwrap_or(0))
 }
 
 pub fn set_record(records: &mut [u64], t: u64, level: u64, g: Guest)
@@ -84,6 +78,7 @@ pub fn home_of(z: Sizes, t: u64) -> u64
 }
 
 // The processor that owns table t: that of its share, whatever its record says.
+#[tactic(auto, unfolding(crate::specs::State::owner_of))]
 pub fn owner_of(records: &[u64], z: Sizes, t: u64) -> u64
     requires { Sized z }
     ensures { result ≡ owner_of (machine64 z) records.now t }
@@ -98,31 +93,26 @@ pub fn root_of(z: Sizes, p: u64) -> u64
     p * z.share
 }
 
-// The table that an entry names; the number of tables if it names none.
-pub fn named_by(z: Sizes, e: u64) -> u64
+// The table that an entry names, if it names one.
+#[tactic(auto, unfolding(crate::specs::State::named))]
+pub fn named_by(z: Sizes, e: u64) -> Option<u64>
     requires { Sized z }
-    ensures { result ≡ named (machine64 z) e }
+    ensures { result ≡ named_some (machine64 z) e }
 {
-    let n = table_count(z);
-    if !paging::present(e) {
-        return n;
-    }
-    let f = paging::frame_of(e);
-    if f < z.base {
-        return n;
-    }
-    if f - z.base < n { f - z.base } else { n }
+    let t = paging::frame_of(e).checked_sub(z.base)?;
+    (paging::present(e) && t < table_count(z)).then_some(t)
 }
 
 // ---- paths
 
+// Kept: a path off the tables stands on their number, as `down` of specs/State says.
 fn step_down(z: Sizes, w: Path, e: u64) -> Path
     requires { Sized z × (1 ≤ w.level) × (w.rights < 8) }
     ensures { result ≡ down (machine64 z) w e }
 {
     Path {
         level: w.level - 1,
-        table: named_by(z, e),
+        table: named_by(z, e).unwrap_or(table_count(z)),
         rights: paging::shared_rights(w.rights, paging::rights_of(e)),
     }
 }
@@ -137,9 +127,8 @@ pub fn path_to(pool: &[u64], z: Sizes, p: u64, page: u64, level: u64) -> Path
         table: root_of(z, p),
         rights: 7,
     };
-    while w.level > level {
-        let i = paging::index_of(page, w.level);
-        let e = paging::entry_at(pool, w.table, i);
+    for l in (level + 1..=4).rev() {
+        let e = paging::entry_at(pool, w.table, paging::index_of(page, l));
         w = step_down(z, w, e);
     }
     w
@@ -147,7 +136,10 @@ pub fn path_to(pool: &[u64], z: Sizes, p: u64, page: u64, level: u64) -> Path
 
 // ---- freeing
 
+// Kept: pool and records stay two slices. In one struct of two `&mut` every contract had to add that both references, both lengths and the sizes stay.
+
 // Frees table t of the given level, and every table below it.
+#[cycle(free_table_cut_entry)]
 fn free_table(pool: &mut [u64], records: &mut [u64], z: Sizes, t: u64, level: u64)
     requires room { Room z records.old }
     requires t_bound { t < table_count (machine64 z) }
@@ -156,39 +148,32 @@ fn free_table(pool: &mut [u64], records: &mut [u64], z: Sizes, t: u64, level: u6
     if level == 0 {
         return;
     }
-    let n = table_count(z);
     for i in 0..paging::FRAME_WORDS {
-        let u = named_by(z, paging::entry_at(pool, t, i));
-        if u < n {
-            free_table(pool, records, z, u, level - 1);
-        }
-        paging::write_entry(pool, t, i, 0);
+        cut_entry(pool, records, z, level - 1, t, i);
     }
     set_record(records, t, 0, Guest(0));
 }
 
 // Frees the table of the given level that entry i of t names, and clears the entry.
+#[cycle(free_table_cut_entry)]
 fn cut_entry(pool: &mut [u64], records: &mut [u64], z: Sizes, level: u64, t: u64, i: usize)
     requires room { Room z records.old }
     requires t_bound { (t < table_count (machine64 z)) × (i < frame_words) }
     ensures { shadow_of pool.new records.new ≡ cut (machine64 z) level t i (shadow_of pool.old records.old) }
 {
-    let u = named_by(z, paging::entry_at(pool, t, i));
-    if u < table_count(z) {
+    if let Some(u) = named_by(z, paging::entry_at(pool, t, i)) {
         free_table(pool, records, z, u, level);
-        paging::write_entry(pool, t, i, 0);
-    } else {
-        paging::write_entry(pool, t, i, 0);
     }
+    paging::write_entry(pool, t, i, 0);
 }
 
 fn zero_table(pool: &mut [u64], t: u64)
     requires { t ≤ 64 }
     ensures { pool.new ≡ zeroed tables64 t pool.old }
 {
-    for i in 0..paging::FRAME_WORDS {
-        paging::write_entry(pool, t, i, 0);
-    }
+    let start = (paging::FRAME_WORDS * t as usize).min(pool.len());
+    let end = (start + paging::FRAME_WORDS).min(pool.len());
+    pool[start..end].fill(0);
 }
 
 // Table t, if it is one of p's: zeroed, and freed unless it is the root.
@@ -212,11 +197,8 @@ pub fn empty_share(pool: &mut [u64], records: &mut [u64], z: Sizes, p: u64)
     requires p_lt_processors { p < z.processors }
     ensures { shadow_of pool.new records.new ≡ empty_share (machine64 z) p (shadow_of pool.old records.old) }
 {
-    let n = table_count(z);
-    let mut t = 0;
-    while t < n {
+    for t in 0..table_count(z) {
         empty_table(pool, records, z, p, t);
-        t += 1;
     }
 }
 
@@ -226,47 +208,34 @@ fn may_take(records: &[u64], z: Sizes, p: u64, t: u64) -> bool
     requires { Sized z × (t ≤ 64) }
     ensures { result ≡ may_take (machine64 z) p records.now t }
 {
-    if home_of(z, t) != p {
-        return false;
-    }
-    level_of(records, t) == 0
+    home_of(z, t) == p && level_of(records, t) == 0
 }
 
 pub fn count_free(records: &[u64], z: Sizes, p: u64) -> u64
     requires { Sized z }
     ensures { result ≡ free_count (machine64 z) p records.now }
 {
-    let n = table_count(z);
     let mut free = 0;
-    let mut t = 0;
-    while t < n {
+    for t in 0..table_count(z) {
         if may_take(records, z, p, t) {
             free += 1;
         }
-        t += 1;
     }
     free
 }
 
-// The table that p takes next: the lowest that it may take.
-fn next_free(records: &[u64], z: Sizes, p: u64) -> u64
+// The table that p takes next: the lowest that it may take, if there is one.
+fn next_free(records: &[u64], z: Sizes, p: u64) -> Option<u64>
     requires { Sized z }
-    ensures { result ≡ taken (machine64 z) p records.now }
+    ensures { result ≡ taken_some (machine64 z) p records.now }
 {
-    let n = table_count(z);
-    let mut t = 0;
-    while t < n {
-        if may_take(records, z, p, t) {
-            return t;
-        }
-        t += 1;
-    }
-    n
+    (0..table_count(z)).find(|t| may_take(records, z, p, *t))
 }
 
 // ---- filling
 
 // The level 1 shadow entry for a guest entry: W only if D is set.
+#[tactic(auto, using(crate::proofs::Names::bounds), unfolding(crate::specs::Steps::leaf_of))]
 fn leaf_of(map: &[u64], e: u64) -> u64
     requires { (i : ℕ) → get_or map.now i 0 < 2 ^ 40 }
     ensures { result ≡ leaf_of tables64 map.now e }
@@ -276,20 +245,14 @@ fn leaf_of(map: &[u64], e: u64) -> u64
     paging::composed(r, r % 2, h.0)
 }
 
-// Whether shadow entry h agrees with guest entry e in rights and in the frame that its table shadows.
-fn agrees(records: &[u64], z: Sizes, h: u64, e: u64) -> bool
+// The table that shadow entry h names, if it agrees with guest entry e in rights and in the frame that this table shadows.
+fn agreeing(records: &[u64], z: Sizes, h: u64, e: u64) -> Option<u64>
     requires { Sized z }
-    ensures { result ≡ agrees (machine64 z) records.now h e }
+    ensures { result ≡ agreeing (machine64 z) records.now h e }
 {
-    let u = named_by(z, h);
-    if u >= table_count(z) {
-        return false;
-    }
-    if paging::rights_of(h) != paging::rights_of(e) {
-        return false;
-    }
-    let g = shadowed_by(records, u);
-    g.0 == paging::frame_of(e)
+    let u = named_by(z, h)?;
+    let same_frame = shadowed_by(records, u).0 == paging::frame_of(e);
+    (same_frame && paging::rights_of(h) == paging::rights_of(e)).then_some(u)
 }
 
 // Down from a table as long as the entries agree with the guest's; the first that does not is cut.
@@ -305,43 +268,28 @@ pub fn settle(
     requires spot_fits { SpotFits z from }
     ensures { settled_at result (shadow_of pool.new records.new) ≡ settle (machine64 z) words.now page from.missing from.table from.frame (shadow_of pool.old records.old) }
 {
-    let mut w = from;
-    while w.missing > 0 {
-        let i = paging::index_of(page, w.missing + 1);
-        let h = paging::entry_at(pool, w.table, i);
-        let g = w.frame;
-        let e = guest::guest_entry(words, page, w.missing + 1, g);
-        if !agrees(records, z, h, e) {
-            cut_entry(pool, records, z, w.missing, w.table, i);
-            return w;
-        }
-        w = Spot {
-            missing: w.missing - 1,
-            table: named_by(z, h),
-            frame: Guest(paging::frame_of(e)),
+    let mut table = from.table;
+    let mut frame = from.frame;
+    for missing in (1..=from.missing).rev() {
+        let i = paging::index_of(page, missing + 1);
+        let h = paging::entry_at(pool, table, i);
+        let e = guest::guest_entry(words, page, missing + 1, frame);
+        let Some(u) = agreeing(records, z, h, e) else {
+            cut_entry(pool, records, z, missing, table, i);
+            return Spot {
+                missing,
+                table,
+                frame,
+            };
         };
+        table = u;
+        frame = Guest(paging::frame_of(e));
     }
-    w
-}
-
-// Entry i of t names u, which gets its record.
-fn hang_table(
-    pool: &mut [u64],
-    records: &mut [u64],
-    z: Sizes,
-    t: u64,
-    i: usize,
-    u: u64,
-    level: u64,
-    g: Guest,
-    rights: u64,
-)
-    requires room { Room z records.old }
-    requires t_bound { (t < table_count (machine64 z)) × (i < frame_words) × (u < table_count (machine64 z)) × (rights < 8) }
-    ensures { shadow_of pool.new records.new ≡ hang (machine64 z) t i u level g rights (shadow_of pool.old records.old) }
-{
-    set_record(records, u, level, g);
-    paging::write_entry(pool, t, i, paging::composed(rights, 0, z.base + u));
+    Spot {
+        missing: 0,
+        table,
+        frame,
+    }
 }
 
 // Takes the next missing table and hangs it below the one that stands.
@@ -358,22 +306,13 @@ fn hang_next(
     requires spot_fits { SpotFits z w × (0 < w.missing) × (taken (machine64 z) p records.old < table_count (machine64 z)) }
     ensures { settled_at result (shadow_of pool.new records.new) ≡ hang_next (machine64 z) words.now p page (w.missing - 1) w.table w.frame (shadow_of pool.old records.old) }
 {
-    let g = w.frame;
-    let e = guest::guest_entry(words, page, w.missing + 1, g);
-    let u = next_free(records, z, p);
+    let e = guest::guest_entry(words, page, w.missing + 1, w.frame);
+    let u = next_free(records, z, p).unwrap();
     let below = Guest(paging::frame_of(e));
     let i = paging::index_of(page, w.missing + 1);
-    hang_table(
-        pool,
-        records,
-        z,
-        w.table,
-        i,
-        u,
-        w.missing,
-        below,
-        paging::rights_of(e),
-    );
+    let entry = paging::composed(paging::rights_of(e), 0, z.base + u);
+    set_record(records, u, w.missing, below);
+    paging::write_entry(pool, w.table, i, entry);
     Spot {
         missing: w.missing - 1,
         table: u,
@@ -398,10 +337,9 @@ pub fn build_path(
     ensures { shadow_of pool.new records.new ≡ build (machine64 z) map.now words.now p page from.missing from.table from.frame (shadow_of pool.old records.old) }
 {
     let mut w = from;
-    while w.missing > 0 {
+    for _ in 0..from.missing {
         w = hang_next(words, pool, records, z, p, page, w);
     }
-    let g = w.frame;
-    let e = guest::guest_entry(words, page, 1, g);
+    let e = guest::guest_entry(words, page, 1, w.frame);
     paging::write_entry(pool, w.table, paging::index_of(page, 1), leaf_of(map, e));
 }

@@ -3,58 +3,37 @@
 // line on standard error says why, and the program ends with status 1.
 #![tactic(auto)]
 
-ghost use Rattle.std.specs.Prelude.{◌≡◌, ◌≤◌, length};
-ghost use Rattle.trainer.specs.Call.{output_size};
-ghost use Rattle.terminal.specs.Input.{Within};
+ghost use Rattle.std.specs.Prelude.{◌≤◌, length, IfOk};
 
 use std::io;
 use std::io::Read;
 use std::process::ExitCode;
-use trainer::Program;
+use trainer::{OUTPUT_SIZE, Program};
 
 // One byte more than a text may have.
 const ASKED: usize = sections::TEXT_SIZE + 1;
 
-// So many bytes, or a read that failed, and why.
-#[derive(Drop)]
-enum Input {
-    Bytes(usize),
-    Failed(io::Error),
-}
-
-// One read, behind the bytes that are there.
-fn read_some<R: Read>(reader: &mut R, text: &mut [u8], at: usize) -> Input
-    requires { at ≤ length text.old }
-    ensures { Within result at (length text.new) }
-{
-    match reader.read(&mut text[at..]) {
-        Ok(n) => Input::Bytes(n),
-        Err(e) => Input::Failed(e),
-    }
-}
-
-// To the end of the input or of the buffer.
-fn read_text<R: Read>(reader: &mut R, text: &mut [u8]) -> Input
-    ensures { Within result 0 (length text.new) }
+// To the end of the input or of the buffer: how many bytes were read.
+fn read_text<R: Read>(reader: &mut R, text: &mut [u8]) -> io::Result<usize>
+    ensures { IfOk result (λ n. n ≤ length text.new) }
 {
     let mut at = 0;
     while at < text.len() {
-        match read_some(reader, text, at) {
-            Input::Bytes(n) => {
-                if n == 0 {
-                    return Input::Bytes(at);
-                }
-                at += n;
-            }
-            Input::Failed(e) => return Input::Failed(e),
+        let n = reader.read(&mut text[at..])?;
+        if n == 0 {
+            break;
         }
+        at += n;
     }
-    Input::Bytes(at)
+    Ok(at)
 }
 
-fn write_lines(rt: &impl Print, text: &[u8], output: &mut [u8], program: Program) -> io::Result<()>
-    requires { length output.old ≡ output_size }
-{
+fn write_lines(
+    rt: &impl Print,
+    text: &[u8],
+    output: &mut [u8; OUTPUT_SIZE],
+    program: Program,
+) -> io::Result<()> {
     let r = trainer::print(text, output, program);
     let n = trainer::bytes_of(r) as usize;
     rt.write_all(&output[..n])
@@ -79,22 +58,20 @@ fn fail<R: Eprint + Alloc>(rt: &R, stream: &str, e: io::Error) -> ExitCode {
 fn answer<R: io::Input + Print + Eprint + Alloc>(
     rt: &R,
     text: &mut [u8],
-    output: &mut [u8],
+    output: &mut [u8; OUTPUT_SIZE],
     program: Program,
-) -> ExitCode
-    requires { length output.old ≡ output_size }
-{
+) -> ExitCode {
     match read_text(&mut rt.reader(), text) {
-        Input::Bytes(n) => match write_lines(rt, &text[..n], output, program) {
+        Ok(n) => match write_lines(rt, &text[..n], output, program) {
             Ok(()) => ExitCode::SUCCESS,
             Err(e) => fail(rt, "standard output", e),
         },
-        Input::Failed(e) => fail(rt, "standard input", e),
+        Err(e) => fail(rt, "standard input", e),
     }
 }
 
 pub fn serve<R: io::Input + Print + Eprint + Alloc>(rt: &R, program: Program) -> ExitCode {
     let mut text = [0u8; ASKED];
-    let mut output = [0u8; trainer::OUTPUT_SIZE];
+    let mut output = [0u8; OUTPUT_SIZE];
     answer(rt, &mut text, &mut output, program)
 }

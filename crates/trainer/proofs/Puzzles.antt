@@ -106,7 +106,7 @@ module _ (text : List ℕ) (z : Puzzle) (at : ℕ) (e : puzzle_of text ≡ got z
   unfolding cr3s_fit
   cr3s_fit_lem = all-each (length z.cr3s) (λ p. ltb (get_or z.cr3s p 0) (length z.map)) (λ p h. lt-ltb (get_or z.cr3s p 0) (length z.map) (reads.cr3s_below text e p h))
 
-  posed-each : (k : ℕ) → k < length z.questions / 3 → Posed z.map z.cr3s (words_of z) z.events (question_of z.questions k)
+  posed-each : (k : ℕ) → k < length z.questions / 3 → Posed (posed z) (question_of z.questions k)
   posed-each k h = record { taken = taken; hosts = λ f l. omega (arith, reads.map_below text e f l) }
     where
       taken : (work outcomes : List ℕ) → length work ≡ 640 → length outcomes ≡ 38

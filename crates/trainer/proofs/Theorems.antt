@@ -16,8 +16,7 @@ use Rattle.puzzle.specs.Buffers.{Buffers, words_of}
 use Rattle.puzzle.proofs.Accepted.{accepted}
 use Rattle.puzzle.proofs.Fits.{event-fits}
 use Rattle.render.specs.Render.{render_question}
-use Rattle.trainer.specs.declared.Written.{Written}
-use Rattle.trainer.specs.Call.{posed, puzzle_in, Lines, Prints, Call, told_of, bytes_of}
+use Rattle.trainer.specs.Call.{posed, puzzle_in, Lines, Prints, Call, Told, told_of, bytes_of}
 use Rattle.trainer.specs.Answers.{AnswersOf, AnswersCall}
 use Rattle.trainer.specs.Run.{sizes_of, RunOf, RunCall, Startable}
 use Rattle.trainer.proofs.Turns.{joined_same, one_right}
@@ -32,7 +31,7 @@ module _ (Of : Lines) (one : (b : Buffers) (x y : List ℕ) → Of b x → Of b 
   prints_same (refused n l) x y a b = a ∙ sym b
   prints_same (got z at) x y a b = one (posed z) x y a b
 
-  call_same : (text before : List ℕ) (r s : Written) (x y : List ℕ) → Call Of text before r x → Call Of text before s y → (r ≡ s) × (x ≡ y)
+  call_same : (text before : List ℕ) (r s : Told) (x y : List ℕ) → Call Of text before r x → Call Of text before s y → (r ≡ s) × (x ≡ y)
   call_same text before r s x y a b = go (ℕ_discrete (length before) 16384)
     where
       go : Dec (length before ≡ 16384) → (r ≡ s) × (x ≡ y)
@@ -51,10 +50,10 @@ answers-same b x y p q =
     ∙ sym q.are
 
 -- ANY TWO RESULTS THAT A PROMISE ALLOWS ARE EQUAL, the answer and the buffer, refused or not
-pub one-answers : (text before : List ℕ) (r s : Written) (x y : List ℕ) → AnswersCall text before r x → AnswersCall text before s y → (r ≡ s) × (x ≡ y)
+pub one-answers : (text before : List ℕ) (r s : Told) (x y : List ℕ) → AnswersCall text before r x → AnswersCall text before s y → (r ≡ s) × (x ≡ y)
 one-answers = call_same AnswersOf answers-same
 
-pub one-run : (text before : List ℕ) (r s : Written) (x y : List ℕ) → RunCall text before r x → RunCall text before s y → (r ≡ s) × (x ≡ y)
+pub one-run : (text before : List ℕ) (r s : Told) (x y : List ℕ) → RunCall text before r x → RunCall text before s y → (r ≡ s) × (x ≡ y)
 one-run = call_same RunOf (λ b x y p q. p ∙ sym q)
 
 -- WHAT IS TO BE PRINTED LIES IN THE BUFFER
@@ -62,7 +61,7 @@ told_bytes : (m : Got Puzzle) (n : ℕ) → bytes_of (told_of m n) ≡ n
 told_bytes (got z at) n = refl
 told_bytes (refused number line) n = refl
 
-pub bytes_inside : (Of : Lines) (text before : List ℕ) (r : Written) (after : List ℕ) → length before ≡ 16384 → Call Of text before r after → bytes_of r ≤ 16384
+pub bytes_inside : (Of : Lines) (text before : List ℕ) (r : Told) (after : List ℕ) → length before ≡ 16384 → Call Of text before r after → bytes_of r ≤ 16384
 bytes_inside Of text before r after long c =
     let p = c.printed long in
     omega (arith, p.fits, ap bytes_of p.counted ∙ told_bytes (puzzle_in text) (length p.bytes))

@@ -1,23 +1,29 @@
 -- The whole call: what was read, and what has been written from the first byte on, as the promise says.
-use mathlib.Core.Path.{◌≡◌, refl, sym, ap, subst⁻¹, ◌∙◌}
+use mathlib.Core.Path.{◌≡◌, refl, sym, ap, ap₂, subst⁻¹, ◌∙◌}
 use mathlib.Core.Bool.{Bool, true, false, cond, ◌&&◌}
 use mathlib.Core.List.{List}
-use Prim.Native.Nat.{ℕ, ◌*◌, ◌/◌, ◌≤◌}
+use Prim.Native.Nat.{ℕ, ◌+◌, ◌*◌, ◌/◌, ◌≤◌}
+use native.Mathlib.Decide.{ℕ_discrete}
 use native.Mathlib.Omega.{arith}
 use lib.Dec.{eqb, leb}
 use lib.ListN.{length, take, drop, replicate, length-append, length-replicate}
 use lib.Seq.{take_at}
-use borrow.Author.Tests.{eq-eqb}
+use borrow.Author.Tests.{eq-eqb, ne_eqb}
+use Rattle.std.specs.Prelude.{Err}
+use Rattle.rules.specs.declared.Refusal.{Refusal}
+use Rattle.rules.specs.Refusal.{number_of}
+use Rattle.rules.proofs.Refusals.{some_number}
+use Rattle.paging.specs.Layout.{frame_words}
 use Rattle.sections.specs.Sections.{Got, got, refused, Puzzle, puzzle_of}
-use Rattle.puzzle.specs.declared.ReadResult.{ReadResult}
-use Rattle.puzzle.specs.declared.ReadResult.TheVariants.{Accepted, Refused}
-use Rattle.puzzle.specs.Buffers.{Buffers, buffers, After, after, laid, words_of, answer, read_call}
+use Rattle.puzzle.specs.Buffers.{ReadResult, Accepted, Refused as Unread, Buffers, buffers, After, after, laid, words_of, answer, read_call}
 use Rattle.puzzle.specs.PartsCode.{Lengths}
 use Rattle.puzzle.proofs.Accepted.{accepted}
-use Rattle.render.specs.WrittenCode.{Out, out_of, written}
-use Rattle.render.proofs.Writes.{written_at, written_front}
-use Rattle.trainer.specs.Call.{posed, puzzle_in, Lines, Prints, Call, told_of}
-use Rattle.trainer.specs.PartsCode.{Printable, Counts, cut}
+use Rattle.render.specs.declared.Printer.{Printer}
+use Rattle.render.specs.WrittenCode.{Out, out_of, place_of, written, Puts}
+use Rattle.render.proofs.Writes.{written_front}
+use Rattle.trainer.specs.declared.Written.{Written}
+use Rattle.trainer.specs.Call.{posed, puzzle_in, Refused, Lines, Prints, Call, told, text_told, told_of, output_size}
+use Rattle.trainer.specs.PartsCode.{Printable, PrintedTo}
 use Rattle.trainer.proofs.Puzzles.{Sizes, sizes, ready}
 use Rattle.puzzle.proofs.Theorems as reads
 
@@ -30,7 +36,7 @@ judged-by : (b : Buffers) → Lengths b → (text : List ℕ) → read_call text
 unfolding read_call
 judged-by b l text = go (leb (length text) 65536)
   where
-    go : (t : Bool) → cond (t && eqb (length b.map) 16 && eqb (length b.cr3s) 4 && eqb (length b.words) 8192 && eqb (length b.events) 1024 && eqb (length b.questions) 48) (answer (puzzle_of text) b) (after (Refused 1 0) b)
+    go : (t : Bool) → cond (t && eqb (length b.map) 16 && eqb (length b.cr3s) 4 && eqb (length b.words) 8192 && eqb (length b.events) 1024 && eqb (length b.questions) 48) (answer (puzzle_of text) b) (after (Unread 1 0) b)
         ≡ answer (cond t (puzzle_of text) (refused 1 0)) b
     go true =
         simp (eq-eqb (length b.map) 16 l.map, eq-eqb (length b.cr3s) 4 l.cr3s, eq-eqb (length b.words) 8192 l.words, eq-eqb (length b.events) 1024 l.events, eq-eqb (length b.questions) 48 l.questions)
@@ -45,11 +51,23 @@ judged =
 pub says : (text : List ℕ) (new : Buffers) {r s : ReadResult} → r ≡ s → after r new ≡ read_call text zeros → after s new ≡ answer (puzzle_in text) zeros
 says text new e h = ap (λ (x : ReadResult). after x new) (sym e) ∙ h ∙ judged text
 
-pub told : (m : Got Puzzle) (old new : Buffers) {n l : ℕ} → after (Refused n l) new ≡ answer m old → m ≡ refused n l
-told (refused k j) old new {n} {l} e = let h : Refused n l ≡ Refused k j = ap (λ (x : After). x.result) e in cc
-told (got z at) old new {n} {l} e = let h = ap (λ (x : After). x.result) e in let y : ◌≡◌ {A = ℕ} 0 1 = cc in absurd (omega arith)
+pub read_refused : (m : Got Puzzle) (old new : Buffers) {n l : ℕ} → after (Unread n l) new ≡ answer m old → m ≡ refused n l
+read_refused (refused k j) old new {n} {l} e = let h : Unread n l ≡ Unread k j = ap (λ (x : After). x.result) e in cc
+read_refused (got z at) old new {n} {l} e = let h = ap (λ (x : After). x.result) e in let y : ◌≡◌ {A = ℕ} 0 1 = cc in absurd (omega arith)
 
 -- ---- an accepted text
+
+-- the counts of a puzzle that stands in front of longer buffers
+pub record Counts (b : Buffers) (g p e q : ℕ) : Type 0 where
+  pub map : 1 * g ≤ length b.map
+  pub cr3s : 1 * p ≤ length b.cr3s
+  pub words : frame_words * g ≤ length b.words
+  pub events : 4 * e ≤ length b.events
+  pub questions : 3 * q ≤ length b.questions
+
+abbrev pub cut : Buffers → ℕ → ℕ → ℕ → ℕ → Buffers
+cut b g p e q =
+    buffers (take (1 * g) b.map) (take (1 * p) b.cr3s) (take (frame_words * g) b.words) (take (4 * e) b.events) (take (3 * q) b.questions)
 
 pub record Took (text : List ℕ) (b : Buffers) (g p e q : ℕ) : Type 0 where
   pub puzzle : Puzzle
@@ -80,8 +98,8 @@ took_by text old new (got z at) {g} {p} {w} {e} {q} says eq =
     let he : e ≡ length z.events / 4 = cc in
     let hq : q ≡ length z.questions / 3 = cc in
     let hw : 512 * g ≡ length (words_of z) = omega (arith, reads.words_long text is) in
-    let fg = front z.map old.map (ap (λ (x : After). x.buffers.map) eq) hg in
-    let fp = front z.cr3s old.cr3s (ap (λ (x : After). x.buffers.cr3s) eq) hp in
+    let fg = front z.map old.map {n = 1 * g} (ap (λ (x : After). x.buffers.map) eq) (omega (arith, hg)) in
+    let fp = front z.cr3s old.cr3s {n = 1 * p} (ap (λ (x : After). x.buffers.cr3s) eq) (omega (arith, hp)) in
     let fw = front (words_of z) old.words (ap (λ (x : After). x.buffers.words) eq) hw in
     let fe = front z.events old.events {n = 4 * e} (ap (λ (x : After). x.buffers.events) eq) (omega (arith, r.fours)) in
     let fq = front z.questions old.questions {n = 3 * q} (ap (λ (x : After). x.buffers.questions) eq) (omega (arith, r.threes)) in
@@ -97,21 +115,48 @@ took_by text old new (got z at) {g} {p} {w} {e} {q} says eq =
 pub took : (text : List ℕ) (new : Buffers) {g p w e q : ℕ} → after (Accepted g p w e q) new ≡ answer (puzzle_in text) zeros → Took text new g p e q
 took text new eq = took_by text zeros new (puzzle_in text) refl eq
 
+-- the fronts are the puzzle's lists
+pub fronts_are : {text : List ℕ} {b : Buffers} {g p e q : ℕ} (t : Took text b g p e q) {map cr3s words events questions : List ℕ}
+    → map ≡ take (1 * g) b.map → cr3s ≡ take (1 * p) b.cr3s → words ≡ take (frame_words * g) b.words → events ≡ take (4 * e) b.events
+    → questions ≡ take (3 * q) b.questions → buffers map cr3s words events questions ≡ posed t.puzzle
+fronts_are t m c w e q = (λ i. buffers (m i) (c i) (w i) (e i) (q i)) ∙ t.fronts
+
 -- ---- what was written
 
-pub call_by : (Of : Lines) (text before : List ℕ) (r : ℕ) (last bytes : List ℕ) (m : Got Puzzle) → puzzle_in text ≡ m → Prints Of m bytes
-    → out_of r last ≡ written bytes (out_of 0 before) → r ≤ 16384 → length before ≡ 16384 → Call Of text before (told_of m r) last
-call_by Of text before r last bytes m is p e few long =
-    let n : r ≡ length bytes = omega (arith, ap (λ (o : Out). o.at) e ∙ written_at bytes (out_of 0 before)) in
-    let h : length bytes ≤ length before = omega arith in
-    let w = e ∙ written_front bytes before h in
+pub printed : {Of : Lines} {text bytes : List ℕ} (m : Got Puzzle) → puzzle_in text ≡ m → Prints Of m bytes
+    → {before after : Printer} → Puts bytes before after → before.at ≡ 0 → after.at ≤ before.at + output_size
+    → {w : Written} → text_told w ≡ told_of m after.at → PrintedTo Of text w before after
+printed {Of} {bytes} m is p {after} put none few counted =
+    let n : after.at ≡ length bytes = omega (arith, put.at, none) in
+    record {
+      bytes = bytes;
+      prints = subst⁻¹ (λ (x : Got Puzzle). Prints Of x bytes) is p;
+      counted = counted ∙ ap (told_of m) n ∙ ap (λ (x : Got Puzzle). told_of x (length bytes)) (sym is);
+      puts = put;
+      few = few;
+    }
+
+pub call_by : {Of : Lines} {text before after : List ℕ} {w : Written} {new last : Printer} → PrintedTo Of text w new last
+    → new.at ≡ 0 → new.out.now ≡ before → after ≡ last.out.now → length before ≡ output_size → Call Of text before (text_told w) after
+call_by {before} {new} {last} p none same behind long =
+    let h : length p.bytes ≤ length before = omega (arith, p.puts.at, p.few, none, long) in
+    let start : place_of new ≡ out_of 0 before = ap₂ out_of none same in
+    let w = p.puts.wrote ∙ ap (written p.bytes) start ∙ written_front p.bytes before h in
     record {
       refused = λ d. absurd (d long);
-      printed = λ d. record {
-        bytes = bytes;
-        prints = subst⁻¹ (λ (x : Got Puzzle). Prints Of x bytes) is p;
-        fits = h;
-        counted = ap (told_of m) n ∙ ap (λ (x : Got Puzzle). told_of x (length bytes)) (sym is);
-        holds = ap (λ (o : Out). o.buffer) w;
-      };
+      printed = λ d. record { bytes = p.bytes; prints = p.prints; fits = h; counted = p.counted; holds = behind ∙ ap (λ (o : Out). o.buffer) w };
     }
+
+-- a buffer of another length is refused
+pub call_refused : {Of : Lines} {text before : List ℕ} (e : Refusal) → number_of e ≡ cond (eqb (length before) output_size) 0 1 → Call Of text before (told (Err e)) before
+call_refused {before} e n = record {
+  refused = λ d. (ap Refused (n ∙ ap (λ (b : Bool). cond b 0 1) (ne_eqb (length before) output_size d)), refl);
+  printed = λ h. absurd (omega (arith, some_number e, n ∙ ap (λ (b : Bool). cond b 0 1) (eq-eqb (length before) output_size h)));
+}
+
+pub fits_output : (n : ℕ) → ◌≡◌ {A = ℕ} 0 (cond (eqb n output_size) 0 1) → n ≡ output_size
+fits_output n e = go (ℕ_discrete n output_size)
+  where
+    go : Dec (n ≡ output_size) → n ≡ output_size
+    go (yes h) = h
+    go (no h) = absurd (omega (arith, e ∙ ap (λ (b : Bool). cond b 0 1) (ne_eqb n output_size h)))

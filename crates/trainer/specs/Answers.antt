@@ -7,8 +7,7 @@ use Rattle.rules.specs.Outcome.{RightAt}
 use Rattle.rules.specs.Numbers.{events_of, question_of}
 use Rattle.puzzle.specs.Buffers.{Buffers}
 use Rattle.render.specs.Render.{render_question}
-use Rattle.trainer.specs.declared.Written.{Written}
-use Rattle.trainer.specs.Call.{joined, Lines, Call}
+use Rattle.trainer.specs.Call.{joined, Lines, Told, Call}
 
 -- a list of outcomes of a question after all events is right; each question starts from the puzzle's own words
 abbrev pub RightOf : List ℕ → List ℕ → List ℕ → List ℕ → Question → List Outcome → Type 0
@@ -24,5 +23,5 @@ abbrev pub AnswersOf : Lines
 AnswersOf b bytes = Rendering b (length b.questions / 3) bytes
 
 -- THE PROMISE OF `answers`
-abbrev pub AnswersCall : List ℕ → List ℕ → Written → List ℕ → Type 0
+abbrev pub AnswersCall : List ℕ → List ℕ → Told → List ℕ → Type 0
 AnswersCall = Call AnswersOf

@@ -1,10 +1,12 @@
 -- What `answers` and `run` promise alike: from the bytes of a text to the bytes that are printed.
-use Rattle.std.specs.Prelude.{◌≡◌, cond, List, [], ◌++◌, ℕ, zero, suc, ◌≤◌, leb, length, drop}
+use Rattle.std.specs.Prelude.{◌≡◌, cond, List, [], ◌++◌, ℕ, zero, suc, ◌≤◌, leb, length, drop, Result, Ok, Err}
 use Rattle.sections.specs.Sections.{Got, got, refused, Puzzle, puzzle_of}
 use Rattle.puzzle.specs.Buffers.{Buffers, buffers, words_of}
 use Rattle.render.specs.Render.{render_refusal}
+use Rattle.rules.specs.declared.Refusal.{Refusal}
+use Rattle.rules.specs.Refusal.{number_of}
 use Rattle.trainer.specs.declared.Written.{Written}
-use Rattle.trainer.specs.declared.Written.TheVariants.{Bytes, RefusedText, Refused}
+use Rattle.trainer.specs.declared.Written.TheVariants.{Lines as Wrote, Refused as RefusedOne}
 use Rattle.sections.specs.Sizes.{text_size}
 
 -- f 0, f 1, .., f (n − 1), one behind the other
@@ -20,12 +22,27 @@ posed z = buffers z.map z.cr3s (words_of z) z.events z.questions
 abbrev pub puzzle_in : List ℕ → Got Puzzle
 puzzle_in text = cond (leb (length text) text_size) (puzzle_of text) (refused 1 0)
 
+-- what a call tells, in numbers: the bytes written for an accepted text; a refused text's number, line and bytes; or why the
+-- call was refused
+pub data Told : Type 0 where
+  Bytes : ℕ → Told
+  RefusedText : ℕ → ℕ → ℕ → Told
+  Refused : ℕ → Told
+
+abbrev pub text_told : Written → Told
+text_told (Wrote n) = Bytes n
+text_told (RefusedOne fault n) = RefusedText (number_of fault.refusal) fault.line n
+
+abbrev pub told : Result Written Refusal → Told
+told (Ok w) = text_told w
+told (Err r) = Refused (number_of r)
+
 -- the answer where this was read and so many bytes were written
-abbrev pub told_of : Got Puzzle → ℕ → Written
+abbrev pub told_of : Got Puzzle → ℕ → Told
 told_of (got z at) n = Bytes n
 told_of (refused number line) n = RefusedText number line n
 
-abbrev pub bytes_of : Written → ℕ
+abbrev pub bytes_of : Told → ℕ
 bytes_of (Bytes n) = n
 bytes_of (RefusedText number line n) = n
 bytes_of (Refused number) = 0
@@ -45,7 +62,7 @@ module _ (Of : Lines) where
   Prints (refused number at) bytes = bytes ≡ render_refusal number at
 
   -- the output stands in front of the buffer, and later bytes stay; of a refused text its number and line are told too
-  pub record Printed (text before : List ℕ) (r : Written) (after : List ℕ) : Type 0 where
+  pub record Printed (text before : List ℕ) (r : Told) (after : List ℕ) : Type 0 where
     pub bytes : List ℕ
     pub prints : Prints (puzzle_in text) bytes
     pub fits : length bytes ≤ length before
@@ -53,6 +70,6 @@ module _ (Of : Lines) where
     pub holds : after ≡ bytes ++ drop (length bytes) before
 
   -- a buffer of this size takes every output; one of another length is refused with 1
-  pub record Call (text before : List ℕ) (r : Written) (after : List ℕ) : Type 0 where
+  pub record Call (text before : List ℕ) (r : Told) (after : List ℕ) : Type 0 where
     pub refused : (length before ≡ output_size → ⊥) → (r ≡ Refused 1) × (after ≡ before)
     pub printed : length before ≡ output_size → Printed text before r after

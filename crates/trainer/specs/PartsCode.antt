@@ -1,56 +1,76 @@
 -- What the functions below `answers` and `run` ask for and leave.
-use Rattle.std.specs.Prelude.{◌≡◌, List, ℕ, ◌+◌, ◌*◌, ◌/◌, ◌^◌, ◌≤◌, ◌<◌, length, take, get_or}
-use Rattle.paging.specs.Layout.{frame_words}
+use Rattle.std.specs.Prelude.{Result, ◌≡◌, List, [], ℕ, ◌+◌, ◌/◌, ◌^◌, ◌≤◌, ◌<◌, length, get_or}
+use Rattle.rules.specs.declared.Event.{Event}
+use Rattle.rules.specs.declared.Refusal.{Refusal}
 use Rattle.rules.specs.declared.Question.{Question}
 use Rattle.rules.specs.declared.Outcome.{Outcome}
-use Rattle.listing.specs.Call.{asked, lent, list_refusal, pairs}
+use Rattle.listing.specs.Call.{asked, lent, list_refusal}
 use Rattle.puzzle.specs.Buffers.{Buffers, buffers}
 use Rattle.rules.specs.Numbers.{events_of, question_of}
+use Rattle.render.specs.declared.Printer.{Printer}
 use Rattle.render.specs.Render.{render_question}
-use Rattle.render.specs.WrittenCode.{out_of, written}
-use Rattle.tables.specs.State.{Machine, machine64, State}
-use Rattle.shadow.specs.Setup.{started}
+use Rattle.render.specs.WrittenCode.{Puts}
+use Rattle.tables.specs.State.{Machine, machine64, State, shadow_of, state_of}
+use Rattle.shadow.specs.declared.Answer.{Answer}
+use Rattle.shadow.specs.Answer.{by_number, replies}
+use Rattle.shadow.specs.After.{after}
+use Rattle.shadow.specs.Setup.{after_setup}
 use Rattle.sections.specs.Sizes.{words_size, events_size, questions_size}
+use Rattle.trainer.specs.declared.Written.{Written}
+use Rattle.trainer.specs.declared.Lists.{Lists}
+use Rattle.trainer.specs.declared.Session.{Session}
 use Rattle.trainer.specs.declared.Program.{Program}
 use Rattle.trainer.specs.declared.Program.TheVariants.{Answers, Run}
-use Rattle.trainer.specs.Call.{joined, Lines, output_size}
+use Rattle.trainer.specs.Call.{joined, puzzle_in, text_told, told_of, Lines, Prints, output_size}
 use Rattle.trainer.specs.Answers.{RightOf, AnswersOf}
-use Rattle.trainer.specs.Run.{sizes_of, event_line, RunOf, Startable}
+use Rattle.trainer.specs.Run.{event_line, RunOf, Startable}
 
 abbrev pub LinesOf : Program → Lines
 LinesOf Answers = AnswersOf
 LinesOf Run = RunOf
 
-module _ (map cr3s words events : List ℕ) (q : Question) where
+abbrev pub lists_of : Lists → Buffers
+lists_of l = buffers l.map.now l.cr3s.now l.words.now l.events.now l.questions.now
+
+module _ (b : Buffers) (q : Question) where
   -- the list call takes this question, with 640 work bytes and 38 numbers for outcomes; host addresses are numbers of 64 bits
   pub record Posed : Type 0 where
-    pub taken : (work outcomes : List ℕ) → length work ≡ 640 → length outcomes ≡ 38 → list_refusal (asked map cr3s events q) (lent words work outcomes) ≡ 0
-    pub hosts : (f : ℕ) → f < length map → get_or map f 0 < 2 ^ 40
-
-  -- the right list stands in front of the outcomes
-  pub record Found (count : ℕ) (outcomes : List ℕ) : Type 0 where
-    pub list : List Outcome
-    pub right : RightOf map cr3s words events q list
-    pub within : 2 * count ≤ 38
-    pub stands : take (2 * count) outcomes ≡ pairs list
+    pub taken : (work outcomes : List ℕ) → length work ≡ 640 → length outcomes ≡ 38 → list_refusal (asked b.map b.cr3s b.events q) (lent b.words work outcomes) ≡ 0
+    pub hosts : (f : ℕ) → f < length b.map → get_or b.map f 0 < 2 ^ 40
 
   -- the lines of the question were written
-  pub record Answered (at : ℕ) (before : List ℕ) (r : ℕ) (after : List ℕ) : Type 0 where
+  pub record Answered (before after : Printer) : Type 0 where
     pub list : List Outcome
-    pub right : RightOf map cr3s words events q list
-    pub wrote : out_of r after ≡ written (render_question map q list) (out_of at before)
-    pub few : r ≤ at + 922
+    pub right : RightOf b.map b.cr3s b.words b.events q list
+    pub puts : Puts (render_question b.map q list) before after
+    pub few : after.at ≤ before.at + 922
+
+-- ---- the machine of a run
+
+abbrev pub state_in : Session → State
+state_in s = state_of s.words.now (shadow_of s.pool.now s.records.now) s.slots.now
+
+-- setup was called, and the words and what the machine is made for stay
+pub record Started (cr3s : List ℕ) (before after : Session) : Type 0 where
+  pub answer : Result Answer ℕ
+  pub call : replies answer (state_of [] (shadow_of after.pool.now after.records.now) after.slots.now)
+      ≡ after_setup (machine64 before.sizes) before.map.now cr3s (state_of [] (shadow_of before.pool.now before.records.now) before.slots.now)
+  pub words : after.words.now ≡ before.words.now
+  pub sizes : after.sizes ≡ before.sizes
+  pub map : after.map.now ≡ before.map.now
+
+-- one event was taken
+pub record Stepped (e : Event) (before : Session) (r : Result Answer Refusal) (next : Session) : Type 0 where
+  pub call : replies (by_number r) (state_in next) ≡ after (machine64 before.sizes) before.map.now (state_in before) e
+  pub sizes : next.sizes ≡ before.sizes
+  pub map : next.map.now ≡ before.map.now
 
 -- the lines of a run from a state were written
-pub record EventsPut (M : Machine) (map : List ℕ) (start : State) (events before : List ℕ) (r : ℕ) (after : List ℕ) : Type 0 where
-  pub wrote : out_of r after ≡ written (joined (length events / 4) (event_line M map start (events_of events))) (out_of 0 before)
-  pub few : r ≤ output_size
+pub record EventsPut (M : Machine) (map : List ℕ) (start : State) (events : List ℕ) (before after : Printer) : Type 0 where
+  pub puts : Puts (joined (length events / 4) (event_line M map start (events_of events))) before after
+  pub few : after.at ≤ before.at + output_size
 
--- from setup
-abbrev pub RunPut : List ℕ → List ℕ → List ℕ → List ℕ → List ℕ → ℕ → List ℕ → Type 0
-RunPut map cr3s words events before r after =
-    let M = machine64 (sizes_of map cr3s) in
-    EventsPut M map (started M cr3s words) events before r after
+-- ---- a program
 
 -- every question can be asked, and the machine can start
 pub record Printable (b : Buffers) : Type 0 where
@@ -58,23 +78,19 @@ pub record Printable (b : Buffers) : Type 0 where
   pub few : length b.questions ≤ questions_size
   pub events : length b.events ≤ events_size
   pub starts : Startable b.map b.cr3s
-  pub each : (k : ℕ) → k < length b.questions / 3 → Posed b.map b.cr3s b.words b.events (question_of b.questions k)
+  pub each : (k : ℕ) → k < length b.questions / 3 → Posed b (question_of b.questions k)
 
 -- all lines were written
-pub record AllPut (Of : Lines) (b : Buffers) (before : List ℕ) (r : ℕ) (after : List ℕ) : Type 0 where
+pub record AllPut (Of : Lines) (b : Buffers) (before after : Printer) : Type 0 where
   pub bytes : List ℕ
   pub lines : Of b bytes
-  pub wrote : out_of r after ≡ written bytes (out_of 0 before)
-  pub few : r ≤ output_size
+  pub puts : Puts bytes before after
+  pub few : after.at ≤ before.at + output_size
 
--- the counts of a puzzle that stands in front of longer buffers
-pub record Counts (b : Buffers) (g p e q : ℕ) : Type 0 where
-  pub map : g ≤ length b.map
-  pub cr3s : p ≤ length b.cr3s
-  pub words : frame_words * g ≤ length b.words
-  pub events : 4 * e ≤ length b.events
-  pub questions : 3 * q ≤ length b.questions
-
-abbrev pub cut : Buffers → ℕ → ℕ → ℕ → ℕ → Buffers
-cut b g p e q =
-    buffers (take g b.map) (take p b.cr3s) (take (frame_words * g) b.words) (take (4 * e) b.events) (take (3 * q) b.questions)
+-- what the text stands for was printed
+pub record PrintedTo (Of : Lines) (text : List ℕ) (r : Written) (before after : Printer) : Type 0 where
+  pub bytes : List ℕ
+  pub prints : Prints Of (puzzle_in text) bytes
+  pub counted : text_told r ≡ told_of (puzzle_in text) (length bytes)
+  pub puts : Puts bytes before after
+  pub few : after.at ≤ before.at + output_size

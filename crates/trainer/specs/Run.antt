@@ -1,5 +1,5 @@
 -- What `run` promises: the line of each event, from the machine that goes through all of them.
-use Rattle.std.specs.Prelude.{◌≡◌, List, [], ℕ, ◌+◌, ◌/◌, ◌^◌, ◌*◌, ◌≤◌, length}
+use Rattle.std.specs.Prelude.{◌≡◌, List, [], ℕ, ◌+◌, ◌/◌, ◌^◌, ◌*◌, ◌≤◌, length, Result}
 use Rattle.rules.specs.declared.Event.{Event}
 use Rattle.rules.specs.Numbers.{events_of}
 use Rattle.tables.specs.declared.Sizes.{Sizes}
@@ -9,8 +9,7 @@ use Rattle.shadow.specs.Answer.{kind_of, value_of}
 use Rattle.shadow.specs.Setup.{started}
 use Rattle.shadow.specs.Runs.{answer_of}
 use Rattle.render.specs.Render.{render_event}
-use Rattle.trainer.specs.declared.Written.{Written}
-use Rattle.trainer.specs.Call.{joined, Lines, Call}
+use Rattle.trainer.specs.Call.{joined, Lines, Told, Call}
 use Rattle.shadow.specs.Refusals.{setup_refusal}
 use Rattle.slots.specs.Slots.{slots_size}
 use Rattle.sections.specs.Sizes.{most_processors}
@@ -25,7 +24,7 @@ pub record Startable (map cr3s : List ℕ) : Type 0 where
   pub taken : (pool records slots : List ℕ) → length pool ≡ 2048 * length cr3s → length records ≡ 8 * length cr3s → length slots ≡ slots_size * length cr3s
       → setup_refusal (machine64 (sizes_of map cr3s)) map cr3s (state_of [] (shadow_of pool records) slots) ≡ 0
 
-abbrev pub answer_line : ℕ → Answer → List ℕ
+abbrev pub answer_line : ℕ → Result Answer ℕ → List ℕ
 answer_line index a = render_event index (kind_of a) (value_of a)
 
 -- "per event `E index kind value`, the index counting from 1"
@@ -39,5 +38,5 @@ RunOf b bytes =
     bytes ≡ joined (length b.events / 4) (event_line M b.map (started M b.cr3s b.words) (events_of b.events))
 
 -- THE PROMISE OF `run`
-abbrev pub RunCall : List ℕ → List ℕ → Written → List ℕ → Type 0
+abbrev pub RunCall : List ℕ → List ℕ → Told → List ℕ → Type 0
 RunCall = Call RunOf

@@ -1,17 +1,18 @@
 -- What the steps on slots do to each slot: one is set or emptied and all others stay; a flush empties or spares.
 use mathlib.Core.Path.{◌≡◌, refl, sym, ap, subst, ◌∙◌}
+use mathlib.Core.Bool.{Bool, true, false, cond, ◌&&◌, ◌||◌}
 use mathlib.Core.List.{List}
 use mathlib.Core.Logic.{◌⊎◌, inl, inr}
 use Prim.Native.Nat.{ℕ, zero, suc, ◌+◌, ◌*◌, ◌/◌, ◌%◌, ◌≤◌, ◌<◌}
 use native.Mathlib.Decide.{ℕ_discrete}
 use native.Mathlib.Omega.{arith}
+use lib.Dec.{eqb, ltb}
 use lib.ListN.{length, get_or, set, length-set}
 use lib.Seq.{get_or-set_same, get_or-set_other}
+use borrow.Author.Tests.{eqb-true, eqb-false, ltb-false}
 use Rattle.paging.specs.Numbers.{each}
 use Rattle.slots.specs.Slots.{slot_count, slot_at, mark_of, page_in, place_in, rights_in, with_slot, emptied, flushed, flush, empty_slots}
 use Rattle.paging.proofs.Counts.{by_cases}
-use Rattle.slots.proofs.Flushes.{flush_empty, flush_other, flush-own, flush_partial}
-use Rattle.trees.proofs.Tests.{zero_one_more}
 
 -- the third number of a slot, place×8 + rights
 abbrev pub third_of : List ℕ → ℕ → ℕ → ℕ
@@ -167,17 +168,18 @@ module _ (p page : ℕ) where
   Spared slots k = (mark_of slots p k ≡ 0) ⊎ ((mark_of slots p k ≡ 1) × (page_in slots p k ≡ page → ⊥))
 
   flush-at : (k : ℕ) (slots : List ℕ) → ((slots ≡ flushed p page k slots) × Spared slots k) ⊎ (emptied p k slots ≡ flushed p page k slots)
-  flush-at k slots =
-      by_cases (zero_one_more (mark_of slots p k))
-      (λ z. inl (flush_empty slots p page k z, inl z))
-      (λ some.
-      by_cases some
-      (λ q. complete q (ℕ_discrete (page_in slots p k) page))
-      (λ l. inr (flush_partial slots p page k (λ z. omega arith) (λ q. omega arith))))
+  unfolding flushed
+  flush-at k slots = go (ltb 1 mark) refl (eqb mark 1) refl (eqb (page_in slots p k) page) refl
     where
-      complete : mark_of slots p k ≡ 1 → Dec (page_in slots p k ≡ page) → ((slots ≡ flushed p page k slots) × Spared slots k) ⊎ (emptied p k slots ≡ flushed p page k slots)
-      complete q (yes e) = inr (flush-own slots p page k q e)
-      complete q (no ne) = inl (flush_other slots p page k q ne, inr (q, ne))
+      mark : ℕ
+      mark = mark_of slots p k
+
+      go : (a : Bool) → ltb 1 mark ≡ a → (b : Bool) → eqb mark 1 ≡ b → (c : Bool) → eqb (page_in slots p k) page ≡ c
+          → ((slots ≡ cond (a || b && c) (emptied p k slots) slots) × Spared slots k) ⊎ (emptied p k slots ≡ cond (a || b && c) (emptied p k slots) slots)
+      go true partial b one c same = inr refl
+      go false low true one true same = inr refl
+      go false low true one false other = inl (refl, inr (eqb-true mark 1 one, eqb-false (page_in slots p k) page other))
+      go false low false none c same = inl (refl, inl (omega (arith, ltb-false 1 mark low, eqb-false mark 1 none)))
 
   flushed-own : Local p (flushed p page)
   flushed-own = record {

@@ -8,7 +8,7 @@ use Rattle.held.proofs.follow.Given as goal
 
 abbrev pub invariant-loop-work : goal.invariant-loop-work
 invariant-loop-work l =
-    HasByte l.frames l.w × (length l.work ≡ length l.initial.work) × (followed tables64 l.frames l.page l.words l.w l.work ≡ followed tables64 l.frames l.page l.words l.initial.w l.initial.work)
+    HasByte l.at.frames l.w × (length l.work ≡ length l.initial.work) × (followed tables64 l.at.frames l.at.page l.words l.w l.work ≡ followed tables64 l.at.frames l.at.page l.words l.initial.w l.initial.work)
 
 abbrev pub decreases-loop-work : goal.decreases-loop-work
 decreases-loop-work l = l.w.level

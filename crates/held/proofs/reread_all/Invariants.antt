@@ -1,19 +1,11 @@
--- The walks with rights below r have been read again.
+-- The walks with rights below `rights` have been read again.
 use mathlib.Core.Path.{◌≡◌}
-use Prim.Native.Nat.{ℕ, ◌-◌, ◌≤◌}
+use Prim.Native.Nat.{ℕ}
 use mathlib.Core.List.{List}
-use lib.ListN.{length}
 use Rattle.paging.specs.Numbers.{each}
 use Rattle.held.specs.FollowCode.{walk_of, reread}
 use Rattle.paging.specs.Layout.{tables64}
 use Rattle.held.proofs.reread_all.Given as goal
 
-abbrev pub turn : ℕ → ℕ → List ℕ → ℕ → ℕ → ℕ → List ℕ → List ℕ
-turn frames page words level f r work = reread tables64 frames page words (walk_of level f r) work
-
-abbrev pub invariant-loop-r : goal.invariant-loop-r
-invariant-loop-r l =
-    (l.r ≤ 8) × (length l.work ≡ length l.initial.work) × (l.work ≡ each l.r (turn l.frames l.page l.words l.level l.f) l.initial.work)
-
-abbrev pub decreases-loop-r : goal.decreases-loop-r
-decreases-loop-r l = 8 - l.r
+abbrev pub invariant-loop-rights : goal.invariant-loop-rights
+invariant-loop-rights l = l.work ≡ each l.rights (λ r. reread tables64 l.at.frames l.at.page l.words (walk_of l.level l.f r)) l.initial.work

@@ -7,10 +7,10 @@ use Rattle.held.proofs.reread_at.Goals as goal
 pub returns-then-index_of-a : goal.returns-then-index_of-a
 returns-then-index_of-a c =
     let a = c.args in
-    sym (reread_elsewhere tables64 a.frames a.page a.words.now a.a a.level a.work.now (λ e. c.if-index_of-a.true (c.index_of.ensures ∙ there_64 a.a _ e)))
-
-pub returns : goal.returns
-returns c =
-    let a = c.args in
     c.reread_all.ensures
-    ∙ sym (reread-here tables64 a.frames a.page a.words.now a.a a.level a.work.now (here_64 a.a _ (sym c.index_of.ensures ∙ c.if-index_of-a.false)))
+    ∙ sym (reread-here tables64 a.at.frames a.at.page a.words.now a.a a.level a.work.now (here_64 a.a _ (sym c.index_of.ensures ∙ c.if-index_of-a.true)))
+
+pub returns-else-index_of-a : goal.returns-else-index_of-a
+returns-else-index_of-a c =
+    let a = c.args in
+    sym (reread_elsewhere tables64 a.at.frames a.at.page a.words.now a.a a.level a.work.now (λ e. c.if-index_of-a.false (c.index_of.ensures ∙ there_64 a.a _ e)))

@@ -1,19 +1,17 @@
 -- The frames below f have been written, at most f of them.
 use mathlib.Core.Path.{◌≡◌}
-use mathlib.Core.List.{List}
-use Prim.Native.Nat.{ℕ, ◌-◌, ◌≤◌}
+use Prim.Native.Nat.{◌≤◌}
 use lib.ListN.{length}
-use Rattle.paging.specs.declared.Request.{Request}
 use Rattle.paging.specs.Numbers.{each}
-use Rattle.listing.specs.CollectCode.{Out, out_of, pushed, serves}
+use Rattle.paging.specs.Frame.{guest}
+use Rattle.rules.specs.declared.Outcome.TheVariants.{Address}
+use Rattle.listing.specs.CollectCode.{out_of, pushed, serves}
 use Rattle.listing.proofs.addresses.Given as goal
 
-abbrev pub turn : ℕ → Request → List ℕ → ℕ → Out → Out
-turn frames q work f o = pushed (serves frames q work f) 0 f o
-
 abbrev pub invariant-loop-f : goal.invariant-loop-f
-invariant-loop-f l =
-    (l.f ≤ l.frames) × (l.n ≤ l.f) × (length l.outcomes ≡ length l.initial.outcomes) × (out_of l.n l.outcomes ≡ each l.f (turn l.frames l.q l.work) (out_of 0 l.initial.outcomes))
-
-abbrev pub decreases-loop-f : goal.decreases-loop-f
-decreases-loop-f l = l.frames - l.f
+invariant-loop-f l = record {
+  same_reference : l.outcomes.buffer.ghost_name ≡ l.initial.outcomes.buffer.ghost_name;
+  few : l.outcomes.count ≤ l.f;
+  size : length l.outcomes.buffer.now ≡ length l.initial.outcomes.buffer.now;
+  written : out_of l.outcomes.count l.outcomes.buffer.now ≡ each l.f (λ f. pushed (serves l.frames l.q l.work f) (Address (guest f))) (out_of 0 l.initial.outcomes.buffer.now);
+}

@@ -14,9 +14,6 @@ use Rattle.listing.specs.CollectCode.{collected}
 use Rattle.listing.specs.AnswerCode.{state_at}
 use Rattle.listing.proofs.answer.Goals as goal
 
-pub replay-requires : goal.replay-requires
-replay-requires c = (record { few = c.requires.room.few; whole = c.requires.room.whole; bytes = omega (arith, c.requires.room.bytes, c.restart.auto.work) }, c.requires.start_in, c.requires.reach)
-
 pub collect-requires : goal.collect-requires
 collect-requires c =
     let a = c.args in
@@ -35,9 +32,9 @@ unfolding state_at
 returns c =
     let a = c.args in
     let n = length a.events.now / 4 in
-    let page = c.page_of-page.ensures in
+    let page = c.page_of.ensures in
     let did = c.replay.ensures
-    ∙ ap (λ (l : List ℕ). replayed a.frames a.q.proc c.page_of-page.result a.events.now n (replay_of a.start a.words.now l)) c.restart.ensures
+    ∙ ap (λ (l : List ℕ). replayed a.frames a.q.proc c.page_of.result a.events.now n (replay_of a.start a.words.now l)) c.restart.ensures
     ∙ ap (λ (v : ℕ). replayed a.frames a.q.proc v a.events.now n (replay_of a.start a.words.now (restarted tables64 a.frames v a.words.now 0 (guest a.start) a.work.now))) page in
     record {
       words_are = ap (λ (s : Replay). s.words) did;

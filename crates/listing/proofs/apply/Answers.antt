@@ -1,57 +1,65 @@
 -- Each way through the code is one case of taking an event.
-use mathlib.Core.Path.{sym, ◌∙◌, ap}
+use mathlib.Core.Path.{◌≡◌, sym, ◌∙◌, ap}
 use Prim.Native.Nat.{ℕ}
 use native.Mathlib.Omega.{arith}
-use lib.ListN.{set, length-set}
+use lib.ListN.{set}
 use Rattle.paging.specs.Layout.{tables64}
 use Rattle.paging.specs.Frame.{guest}
+use Rattle.rules.specs.declared.Kind.TheVariants.{Store, Invlpg, Cr3Write}
+use Rattle.rules.specs.Numbers.{kind_number}
 use Rattle.held.specs.FollowCode.{restarted}
 use Rattle.listing.specs.ReplayCode.{replay_of}
-use Rattle.listing.proofs.Applies.{forgets_in, applied-store, applied_other, applied-invlpg, applied-cr3, applied_none}
+use Rattle.listing.proofs.Applies.{same_kind, forgets_in, applied-store, applied_other, applied-invlpg, applied-cr3, applied_quiet, applied_unknown}
 use Rattle.listing.proofs.apply.Goals as goal
 
-pub offset_bounds-words-i : goal.offset_bounds-words-i
-offset_bounds-words-i c = omega (arith, c.requires.2.word c.if-kind-eq1.true, c.requires.0.whole)
+pub returns-in_default : goal.returns-in_default
+returns-in_default c =
+    let a = c.args in
+    let h = rw c.in_default.is at c.try_from.ensures in
+    sym (applied_unknown a.at.frames a.p a.at.page a.e (replay_of a.cr3 a.words.now a.work.now) h.1)
 
-pub bounds-words-i : goal.bounds-words-i
-bounds-words-i c = omega (arith, c.requires.2.word c.if-kind-eq1.true, c.requires.0.whole)
-
-pub reread_word-requires : goal.reread_word-requires
-reread_word-requires c = (record { few = c.requires.0.few; whole = simp length-set c.requires.0.whole; bytes = c.requires.0.bytes }, c.requires.2.word c.if-kind-eq1.true)
-
-pub returns-then-kind-eq1 : goal.returns-then-kind-eq1
-returns-then-kind-eq1 c =
+pub returns-in-Store : goal.returns-in-Store
+returns-in-Store c =
     let a = c.args in
     ap (replay_of a.cr3 (set a.words.now a.e.a a.e.b)) c.reread_word.ensures
-    ∙ sym (applied-store a.frames a.p a.page a.e (replay_of a.cr3 a.words.now a.work.now) c.if-kind-eq1.true)
+    ∙ sym (applied-store a.at.frames a.p a.at.page a.e (replay_of a.cr3 a.words.now a.work.now) (sym c.in-Ok.ensures ∙ ap kind_number c.in-Store.is))
 
 pub returns-then-e-p : goal.returns-then-e-p
 returns-then-e-p c =
     let a = c.args in
-    sym (applied_other a.frames a.p a.page a.e (replay_of a.cr3 a.words.now a.work.now) c.if-kind-eq1.false c.if-e-p.true)
+    let kind : a.e.kind ≡ 2 = sym c.in-Ok.ensures ∙ ap kind_number c.in-Invlpg.is in
+    sym (applied_other a.at.frames a.p a.at.page a.e (replay_of a.cr3 a.words.now a.work.now) (λ k. omega arith) c.if-e-p.true)
 
 pub restart-requires : goal.restart-requires
 restart-requires c =
     let a = c.args in
-    (c.requires.0, omega (arith, c.forgotten-from.ensures, forgets_in a.frames a.page a.e.a), c.requires.1)
+    (c.requires.0, omega (arith, c.forgotten.ensures, forgets_in a.at.frames a.at.page a.e.a), c.requires.1)
 
-pub returns-then-kind-eq2 : goal.returns-then-kind-eq2
-returns-then-kind-eq2 c =
+pub returns-else-e-p : goal.returns-else-e-p
+returns-else-e-p c =
     let a = c.args in
+    let kind : a.e.kind ≡ 2 = sym c.in-Ok.ensures ∙ ap kind_number c.in-Invlpg.is in
     ap (replay_of a.cr3 a.words.now)
-    (c.restart.ensures ∙ ap (λ (k : ℕ). restarted tables64 a.frames a.page a.words.now k (guest a.cr3) a.work.now) c.forgotten-from.ensures)
-    ∙ sym (applied-invlpg a.frames a.p a.page a.e (replay_of a.cr3 a.words.now a.work.now) c.if-kind-eq1.false c.if-e-p.false c.if-kind-eq2.true)
+    (c.restart.ensures ∙ ap (λ (k : ℕ). restarted tables64 a.at.frames a.at.page a.words.now k (guest a.cr3) a.work.now) c.forgotten.ensures)
+    ∙ sym (applied-invlpg a.at.frames a.p a.at.page a.e (replay_of a.cr3 a.words.now a.work.now) (λ k. omega arith) c.if-e-p.false kind)
 
-pub restart-requires-then-kind-eq3 : goal.restart-requires-then-kind-eq3
-restart-requires-then-kind-eq3 c = (c.requires.0, omega arith, c.requires.2.cr3 c.if-kind-eq3.true)
-
-pub returns-then-kind-eq3 : goal.returns-then-kind-eq3
-returns-then-kind-eq3 c =
+pub returns-then-e-p-2 : goal.returns-then-e-p-2
+returns-then-e-p-2 c =
     let a = c.args in
-    ap (replay_of a.e.a a.words.now) c.restart-then-kind-eq3.ensures
-    ∙ sym (applied-cr3 a.frames a.p a.page a.e (replay_of a.cr3 a.words.now a.work.now) c.if-kind-eq1.false c.if-e-p.false c.if-kind-eq2.false c.if-kind-eq3.true)
+    let kind : a.e.kind ≡ 3 = sym c.in-Ok.ensures ∙ ap kind_number c.in-Cr3Write.is in
+    sym (applied_other a.at.frames a.p a.at.page a.e (replay_of a.cr3 a.words.now a.work.now) (λ k. omega arith) c.if-e-p-2.true)
 
-pub returns : goal.returns
-returns c =
+pub returns-else-e-p-2 : goal.returns-else-e-p-2
+returns-else-e-p-2 c =
     let a = c.args in
-    sym (applied_none a.frames a.p a.page a.e (replay_of a.cr3 a.words.now a.work.now) c.if-kind-eq1.false c.if-e-p.false c.if-kind-eq2.false c.if-kind-eq3.false)
+    let kind : a.e.kind ≡ 3 = sym c.in-Ok.ensures ∙ ap kind_number c.in-Cr3Write.is in
+    ap (replay_of a.e.a a.words.now) c.restart-in-Cr3Write.ensures
+    ∙ sym (applied-cr3 a.at.frames a.p a.at.page a.e (replay_of a.cr3 a.words.now a.work.now) (λ k. omega arith) c.if-e-p-2.false (λ k. omega arith) kind)
+
+pub returns-in_default-kind : goal.returns-in_default-kind
+returns-in_default-kind c =
+    let a = c.args in
+    sym (applied_quiet a.at.frames a.p a.at.page a.e (replay_of a.cr3 a.words.now a.work.now)
+    (λ k. c.in_default-kind.not-Store (same_kind _ Store (c.in-Ok.ensures ∙ k)))
+    (λ k. c.in_default-kind.not-Invlpg (same_kind _ Invlpg (c.in-Ok.ensures ∙ k)))
+    (λ k. c.in_default-kind.not-Cr3Write (same_kind _ Cr3Write (c.in-Ok.ensures ∙ k))))

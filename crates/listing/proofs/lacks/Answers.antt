@@ -1,31 +1,19 @@
-use mathlib.Core.Path.{◌≡◌, sym, ap, ◌∙◌}
-use Prim.Native.Nat.{ℕ, ◌*◌}
-use native.Mathlib.Omega.{arith}
-use Rattle.paging.specs.Numbers.{some}
-use Rattle.paging.proofs.Numbers.{some_none, some_more, some_i}
+use Rattle.std.proofs.Common.{rules, tests, arith, ◌≡◌, sym, ap, take, drop, eqb, ℕ, ◌*◌, ◌+◌, ◌%◌, ◌&&◌, not, true, false, length, get_or}
+use Rattle.std.proofs.lemmas.List.{get_or-take, length-take}
+use Rattle.std.proofs.lemmas.Iterator.{cases_from_any, YieldsList-from_slice}
+use Rattle.std.proofs.lemmas.Iterator.Consumers.{YieldsList-from_enumerate}
+use Rattle.paging.specs.Request.{enough}
 use Rattle.listing.specs.CollectCode.{lacks_at, lacks}
+use Rattle.listing.proofs.Chains.{any_numbered}
 use Rattle.listing.proofs.lacks.Goals as goal
-
-pub loop-k-init : goal.loop-k-init
-loop-k-init c = (omega arith, some_none _)
-
-pub lacks_at-requires : goal.lacks_at-requires
-lacks_at-requires c = (c.requires.2, omega (arith, c.requires.1))
-
-pub returns-then-lacks_at : goal.returns-then-lacks_at
-unfolding lacks
-returns-then-lacks_at c =
-    let a = c.args in
-    sym (some_i (lacks_at a.q a.work.now) (8 * a.frames) c.loop-k.k (omega arith) (sym c.lacks_at.ensures ∙ c.if-lacks_at.true))
-
-pub loop-k-preserved : goal.loop-k-preserved
-loop-k-preserved c =
-    let a = c.args in
-    (omega arith, some_more (lacks_at a.q a.work.now) c.loop-k.k c.loop-k.invariant.1 (sym c.lacks_at.ensures ∙ c.if-lacks_at.false))
 
 pub returns : goal.returns
 unfolding lacks
 returns c =
     let a = c.args in
-    let done : c.loop-k.k ≡ (8 * a.frames) = omega arith in
-    sym c.loop-k.invariant.1 ∙ ap (λ (n : ℕ). some n (lacks_at a.q a.work.now)) done
+    let part = take (8 * a.frames) a.work.now in
+    let test = λ (p : ℕ × ℕ). eqb p.1 1 && not (enough a.q (p.0 % 8)) in
+    any_numbered test part (8 * a.frames) (lacks_at a.q a.work.now) (omega (arith, length-take {A = ℕ}, c.requires.bytes))
+    (λ k lt. ap (λ (b : ℕ). eqb b 1 && not (enough a.q (k % 8))) (sym (get_or-take (8 * a.frames) a.work.now k 0 lt))) _
+    (cases_from_any _ _ _ (λ p. test p ≡ true) (λ p. test p ≡ false) c.any.ensures.ran
+    (YieldsList-from_enumerate (YieldsList-from_slice part (search rules)) cc) (λ x q k. search (rules, tests)) (λ x q k. search (rules, tests)))

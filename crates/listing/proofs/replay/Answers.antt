@@ -1,50 +1,45 @@
-use mathlib.Core.Path.{◌≡◌, refl, sym, ap, ◌∙◌, subst}
-use Prim.Native.Nat.{ℕ, ◌/◌}
+use mathlib.Core.Path.{◌≡◌, sym, ap, ◌∙◌, subst}
+use mathlib.Core.List.{[]}
+use Prim.Native.Nat.{ℕ, ◌/◌, ◌<◌}
 use native.Mathlib.Omega.{arith}
-use lib.ListN.{length}
+use lib.ListN.{length, get_or}
 use Rattle.paging.proofs.Numbers.{each_none, each_more}
 use Rattle.rules.specs.declared.Event.{Event}
 use Rattle.rules.specs.Numbers.{event_of}
 use Rattle.listing.specs.ReplayCode.{Replay, replay_of, Reach, applied, replayed}
 use Rattle.listing.proofs.Applies.{applied_in}
+use Rattle.listing.proofs.Chains.{chunk_event}
 use Rattle.listing.proofs.replay.Goals as goal
+use Rattle.listing.proofs.replay.Goals.{After-event_at}
 
-pub loop-k-init : goal.loop-k-init
+-- what is read is the event of this turn
+read : (c : After-event_at) → c.event_at.result ≡ event_of c.args.events.now c.loop-e.e-index
+read c =
+    let lt : c.loop-e.e-index < length c.args.events.now / 4 = omega (arith, c.as_chunks.ensures.front_len, c.loop-e-test.true) in
+    c.event_at.ensures ∙ rw c.as_chunks.ensures.front (chunk_event _ c.loop-e.e-index c.args.events.now lt)
+
+pub loop-e-init : goal.loop-e-init
 unfolding replayed
-loop-k-init c = (omega arith, refl, refl, c.requires.1, sym (each_none _ _))
+loop-e-init c = (c.requires.1, sym (each_none _ _))
 
 pub apply-cr3-requires : goal.apply-cr3-requires
 apply-cr3-requires c =
-    let inv = c.loop-k.invariant in (
-      record { few = c.requires.0.few; whole = inv.1 ∙ c.requires.0.whole; bytes = omega (arith, c.requires.0.bytes, inv.2) },
-      inv.3,
-      subst (λ (e : Event). Reach c.args.frames e) (sym c.event_at-e.ensures) (c.requires.2 c.loop-k.k (omega arith)),
+    let lt : c.loop-e.e-index < length c.args.events.now / 4 = omega (arith, c.as_chunks.ensures.front_len, c.loop-e-test.true) in (
+      record { few = c.requires.0.few; whole = c.loop-e.auto.words ∙ c.requires.0.whole; bytes = omega (arith, c.requires.0.bytes, c.loop-e.auto.work) },
+      c.loop-e.invariant.0,
+      subst (λ (e : Event). Reach c.args.at.frames e) (sym (read (goal.at.apply-cr3-requires c).After-event_at)) (c.requires.2 c.loop-e.e-index lt),
     )
 
-pub loop-k-preserved : goal.loop-k-preserved
+pub loop-e-preserved : goal.loop-e-preserved
 unfolding replayed
-loop-k-preserved c =
+loop-e-preserved c =
     let a = c.args in
-    let k = c.loop-k.k in
-    let inv = c.loop-k.invariant in
+    let k = c.loop-e.e-index in
+    let inv = c.loop-e.invariant in
     let e = event_of a.events.now k in
-    let s = replay_of c.loop-k.cr3 c.loop-k.words c.loop-k.work in
-    let did = c.apply-cr3.ensures ∙ ap (λ (e : Event). applied a.frames a.p a.page e s) c.event_at-e.ensures in (
-      omega arith,
-      c.apply-cr3.auto.words ∙ inv.1,
-      c.apply-cr3.auto.work ∙ inv.2,
-      rw (ap (λ (x : Replay). x.cr3) did) (applied_in a.frames a.p a.page e s inv.3 (c.requires.2 k (omega arith))),
-      did ∙ ap (applied a.frames a.p a.page e) inv.4 ∙ sym (each_more (λ k. applied a.frames a.p a.page (event_of a.events.now k)) _ k),
+    let s = replay_of c.loop-e.cr3 c.loop-e.words c.loop-e.work in
+    let lt : k < length a.events.now / 4 = omega (arith, c.as_chunks.ensures.front_len, c.loop-e-test.true) in
+    let did = c.apply-cr3.ensures ∙ ap (λ (e : Event). applied a.at.frames a.p a.at.page e s) (read (goal.at.loop-e-preserved c).After-event_at) in (
+      rw (ap (λ (x : Replay). x.cr3) did) (applied_in a.at.frames a.p a.at.page e s inv.0 (c.requires.2 k lt)),
+      did ∙ ap (applied a.at.frames a.p a.at.page e) inv.1 ∙ sym (each_more (λ k. applied a.at.frames a.p a.at.page (event_of a.events.now k)) _ k),
     )
-
-pub shape_of-words : goal.shape_of-words
-shape_of-words c = c.loop-k.invariant.1
-
-pub shape_of-work : goal.shape_of-work
-shape_of-work c = c.loop-k.invariant.2
-
-pub returns : goal.returns
-returns c =
-    let a = c.args in
-    let done : c.loop-k.k ≡ length a.events.now / 4 = omega arith in
-    c.loop-k.invariant.4 ∙ ap (λ (n : ℕ). replayed a.frames a.p a.page a.events.now n (replay_of a.start a.words.now a.work.now)) done

@@ -1,14 +1,9 @@
--- After k events the words, the CR3 and the bytes are those of the first k.
+-- After as many events the words, the CR3 and the bytes are those of the first ones.
 use mathlib.Core.Path.{◌≡◌}
-use Prim.Native.Nat.{◌-◌, ◌≤◌, ◌<◌}
-use lib.ListN.{length}
+use Prim.Native.Nat.{◌<◌}
 use Rattle.listing.specs.ReplayCode.{replay_of, replayed}
 use Rattle.listing.proofs.replay.Given as goal
 
-abbrev pub invariant-loop-k : goal.invariant-loop-k
-invariant-loop-k l =
-    (l.k ≤ l.n) × (length l.words ≡ length l.initial.words) × (length l.work ≡ length l.initial.work) × (l.cr3 < l.frames)
-    × (replay_of l.cr3 l.words l.work ≡ replayed l.frames l.p l.page l.events l.k (replay_of l.start l.initial.words l.initial.work))
-
-abbrev pub decreases-loop-k : goal.decreases-loop-k
-decreases-loop-k l = l.n - l.k
+abbrev pub invariant-loop-e : goal.invariant-loop-e
+invariant-loop-e l =
+    (l.cr3 < l.at.frames) × (replay_of l.cr3 l.words l.work ≡ replayed l.at.frames l.p l.at.page l.fn.events l.e-index (replay_of l.start l.initial.words l.initial.work))

@@ -1,28 +1,21 @@
-use mathlib.Core.Path.{◌≡◌, sym, ap, ◌∙◌}
-use Prim.Native.Nat.{ℕ}
-use native.Mathlib.Omega.{arith}
-use Rattle.paging.specs.Numbers.{some}
-use Rattle.paging.proofs.Numbers.{some_none, some_more, some_i}
+use Rattle.std.proofs.Common.{rules, tests, arith, ◌≡◌, ◌∙◌, sym, ◌<◌, ap, take, drop, eqb, ℕ, ◌*◌, ◌+◌, ◌&&◌, true, false, length, get_or}
+use Rattle.std.proofs.lemmas.List.{get_or-take, get_or-drop, length-take, length-drop}
+use Rattle.std.proofs.lemmas.Iterator.{cases_from_any, YieldsList-from_slice}
+use Rattle.std.proofs.lemmas.Iterator.Consumers.{YieldsList-from_enumerate}
+use Rattle.paging.specs.Request.{enough}
 use Rattle.listing.specs.CollectCode.{serves_with, serves}
+use Rattle.listing.proofs.Chains.{any_numbered}
 use Rattle.listing.proofs.serves.Goals as goal
-
-pub loop-r-init : goal.loop-r-init
-loop-r-init c = (omega arith, some_none _)
-
-pub returns-then-serves_with : goal.returns-then-serves_with
-unfolding serves
-returns-then-serves_with c =
-    let a = c.args in
-    sym (some_i (serves_with a.frames a.q a.work.now a.f) 8 c.loop-r.r (omega arith) (sym c.serves_with.ensures ∙ c.if-serves_with.true))
-
-pub loop-r-preserved : goal.loop-r-preserved
-loop-r-preserved c =
-    let a = c.args in
-    (omega arith, some_more (serves_with a.frames a.q a.work.now a.f) c.loop-r.r c.loop-r.invariant.1 (sym c.serves_with.ensures ∙ c.if-serves_with.false))
 
 pub returns : goal.returns
 unfolding serves
 returns c =
     let a = c.args in
-    let done : c.loop-r.r ≡ 8 = omega arith in
-    sym c.loop-r.invariant.1 ∙ ap (λ (n : ℕ). some n (serves_with a.frames a.q a.work.now a.f)) done
+    let part = take 8 (drop (8 * a.f) a.work.now) in
+    let test = λ (p : ℕ × ℕ). eqb p.1 1 && enough a.q p.0 in
+    let place : (k : ℕ) → (0 * a.frames + a.f) * 8 + k ≡ 8 * a.f + k = λ k. omega arith in
+    let same : (k : ℕ) → k < 8 → serves_with a.frames a.q a.work.now a.f k ≡ test (k, get_or part k 0) =
+    λ k lt. ap (λ (b : ℕ). eqb b 1 && enough a.q k) (ap (λ (i : ℕ). get_or a.work.now i 0) (place k) ∙ sym (get_or-take 8 (drop (8 * a.f) a.work.now) k 0 lt ∙ get_or-drop (8 * a.f) a.work.now k 0)) in
+    any_numbered test part 8 (serves_with a.frames a.q a.work.now a.f) (omega (arith, length-take {A = ℕ}, length-drop {A = ℕ}, c.requires.0.bytes)) (λ k lt. same k lt) _
+    (cases_from_any _ _ _ (λ p. test p ≡ true) (λ p. test p ≡ false) c.any.ensures.ran
+    (YieldsList-from_enumerate (YieldsList-from_slice part (search rules)) cc) (λ x q k. search (rules, tests)) (λ x q k. search (rules, tests)))

@@ -1,70 +1,26 @@
 -- An accepted text stands in the lent buffers: its sections in front of them, its pairs stored among zeros.
-use mathlib.Core.Path.{◌≡◌, ap, ◌∙◌}
-use Prim.Native.Nat.{◌*◌, ◌≤◌}
-use native.Mathlib.Omega.{arith}
-use lib.ListN.{length, take, replicate}
+use Rattle.std.proofs.Common.{◌≡◌, ◌*◌, ◌≤◌, ℕ, length, take, replicate, ap, ◌∙◌, arith, rules, length-append, length-take, length-drop}
 use Rattle.puzzle.specs.Buffers.{with_pairs}
-use Rattle.puzzle.specs.PartsCode.{lists, Whole}
-use Rattle.puzzle.proofs.Calls.{not_refused, pairs_below, accepted_answer}
+use Rattle.puzzle.proofs.Fills.{zeros-laid}
+use Rattle.puzzle.proofs.Calls.{pairs_below, accepted_answer}
 use Rattle.puzzle.proofs.fill.Goals as goal
-use Rattle.puzzle.proofs.fill.Goals.{In-Accepted}
+use Rattle.puzzle.proofs.fill.Goals.{In_ok-counts}
 
--- where the text has been read
-whole : (c : In-Accepted) → let a = c.args in let n = c.in-Accepted in let last = c.read_sections-counts.new in
-    Whole a.text.now (lists a.map.now a.cr3s.now (replicate 16384 0) a.events.now a.questions.now)
-    (lists last.map last.cr3s last.pairs last.events last.questions)
-    n.frames n.processors n.n n.events n.questions
-whole c = c.read_sections-counts.ensures.read c.in-Accepted.is
-
-few-frames : (c : In-Accepted) → c.in-Accepted.frames ≤ 16
+few-frames : (c : In_ok-counts) → c.in_ok-counts.counts.frames ≤ 16
 few-frames c =
-    let k : length c.read_sections-counts.new.map ≡ length c.args.map.now = c.read_sections-counts.auto.map in
-    omega (arith, (whole c).map.fits, k, c.requires.0.map)
-
-pub overflow_mul-frames : goal.overflow_mul-frames
-overflow_mul-frames c = omega (arith, few-frames (goal.at.overflow_mul-frames c).In-Accepted)
-
-pub clear-requires : goal.clear-requires
-clear-requires c = omega (arith, few-frames (goal.at.clear-requires c).In-Accepted, c.requires.0.words)
+    let k : length c.read_sections.new.map ≡ length c.args.map.now = c.read_sections.auto.map in
+    omega (arith, c.in_ok-counts.ensures.map.fits, k, c.requires.0.map)
 
 pub store_pairs-requires : goal.store_pairs-requires
 store_pairs-requires c =
-    let k : length c.clear.new.words ≡ length c.args.words.now = c.clear.auto.words in
-    ((whole (goal.at.store_pairs-requires c).In-Accepted).pairs.fits, λ i h. omega (arith, pairs_below (whole (goal.at.store_pairs-requires c).In-Accepted) i h, few-frames (goal.at.store_pairs-requires c).In-Accepted, k, c.requires.0.words))
+    let g = few-frames (goal.at.store_pairs-requires c).In_ok-counts in
+    λ i h. omega (arith, g, pairs_below c.in_ok-counts.ensures i h, c.requires.0.words, c.fill.ensures.len, length-append {A = ℕ}, length-take {A = ℕ}, length-drop {A = ℕ})
 
-pub shape_of-map-in-Refused : goal.shape_of-map-in-Refused
-shape_of-map-in-Refused c = c.read_sections-counts.auto.map
-
-pub shape_of-cr3s-in-Refused : goal.shape_of-cr3s-in-Refused
-shape_of-cr3s-in-Refused c = c.read_sections-counts.auto.cr3s
-
-pub shape_of-events-in-Refused : goal.shape_of-events-in-Refused
-shape_of-events-in-Refused c = c.read_sections-counts.auto.events
-
-pub shape_of-questions-in-Refused : goal.shape_of-questions-in-Refused
-shape_of-questions-in-Refused c = c.read_sections-counts.auto.questions
-
-pub returns-in-Refused : goal.returns-in-Refused
-returns-in-Refused c = absurd (not_refused c.requires.1 (c.read_sections-counts.ensures.fault c.in-Refused.is))
-
-pub shape_of-map-in-Accepted : goal.shape_of-map-in-Accepted
-shape_of-map-in-Accepted c = c.read_sections-counts.auto.map
-
-pub shape_of-cr3s-in-Accepted : goal.shape_of-cr3s-in-Accepted
-shape_of-cr3s-in-Accepted c = c.read_sections-counts.auto.cr3s
-
-pub shape_of-words : goal.shape_of-words
-shape_of-words c = c.store_pairs.auto.words ∙ c.clear.auto.words
-
-pub shape_of-events-in-Accepted : goal.shape_of-events-in-Accepted
-shape_of-events-in-Accepted c = c.read_sections-counts.auto.events
-
-pub shape_of-questions-in-Accepted : goal.shape_of-questions-in-Accepted
-shape_of-questions-in-Accepted c = c.read_sections-counts.auto.questions
-
-pub returns-in-Accepted : goal.returns-in-Accepted
-returns-in-Accepted c =
-    let stored = c.store_pairs.ensures in
-    let cleared = c.clear.ensures in
-    accepted_answer (whole (goal.at.returns-in-Accepted c).In-Accepted) c.args.words.now
-    (stored ∙ ap (with_pairs (take (c.in-Accepted.n * 2) c.read_sections-counts.new.pairs)) cleared)
+pub returns : goal.returns
+returns c =
+    let g = few-frames (goal.at.returns c).In_ok-counts in
+    let n = 512 * c.in_ok-counts.counts.frames in
+    let cleared : c.fill.new.self ≡ replicate (length (take n c.args.words.now)) 0 = search rules in
+    accepted_answer c.in_ok-counts.ensures c.args.words.now
+    (c.store_pairs.ensures
+    ∙ ap (with_pairs (take (c.in_ok-counts.counts.words * 2) c.read_sections.new.pairs)) (zeros-laid n c.args.words.now c.fill.new.self (omega (arith, c.requires.0.words)) cleared))

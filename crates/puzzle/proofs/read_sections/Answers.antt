@@ -1,41 +1,46 @@
--- The five parts are the sections of the text, or its first refusal from there on.
-use mathlib.Core.Path.{refl, ◌∙◌}
-use Prim.Native.Nat.{◌≤◌}
-use native.Mathlib.Omega.{arith}
+-- The five parts are the sections of the text, or its first refusal.
+use Rattle.std.proofs.Common.{refl, arith}
+use Rattle.std.proofs.lemmas.Result.{err_from_is_err_and}
 use Rattle.cursor.specs.Text.{feeds}
-use Rattle.puzzle.proofs.Chain.{few, part_ready, next-ready, parts_are}
+use Rattle.puzzle.proofs.Chain.{after-start, then_cr3s, then_words, then_events, then_questions, over, whole}
 use Rattle.puzzle.proofs.read_sections.Goals as goal
-use Rattle.puzzle.proofs.read_sections.Goals.{After-count_of-g}
 
-few-frames : (c : After-count_of-g) → c.count_of-g.result ≤ 16
-few-frames c =
-    omega (arith, c.count_of-g.ensures, few c.read-frames.result c.read-frames.ensures (c.read-frames.auto.buffer ∙ c.requires.map))
+pub read-requires : goal.read-requires
+read-requires c = (record { inside = omega arith; lined = unfold feeds in refl }, c.requires.map)
 
-pub read-frames-requires : goal.read-frames-requires
-read-frames-requires c = (record { inside = omega arith; lined = unfold feeds in refl }, omega arith, c.requires.map)
+pub returns-in_err-frames : goal.returns-in_err-frames
+returns-in_err-frames c =
+    let p = err_from_is_err_and c.from_residual.result c.from_residual.ensures.1 in
+    rw (p.1, p.2) (after-start c.args.text.now c.in_err-frames.ensures)
 
-pub read_next-roots-requires : goal.read_next-roots-requires
-read_next-roots-requires c = (part_ready c.read-frames.ensures, few-frames (goal.at.read_next-roots-requires c).After-count_of-g, c.requires.cr3s)
+pub returns-in_err-roots : goal.returns-in_err-roots
+returns-in_err-roots c =
+    let p = err_from_is_err_and c.from_residual-in_err-roots.result c.from_residual-in_err-roots.ensures.1 in
+    rw (p.1, p.2) (then_cr3s c.in_ok-frames.frames.count c.in_ok-frames.ensures c.in_err-roots.ensures)
 
-pub read_next-words-requires : goal.read_next-words-requires
-read_next-words-requires c = (next-ready c.read-frames.result c.read_next-roots.ensures, few-frames (goal.at.read_next-words-requires c).After-count_of-g, c.requires.pairs)
+pub returns-in_err-words : goal.returns-in_err-words
+returns-in_err-words c =
+    let p = err_from_is_err_and c.from_residual-in_err-words.result c.from_residual-in_err-words.ensures.1 in
+    rw (p.1, p.2) (then_words c.in_ok-frames.frames.count c.in_ok-frames.ensures c.in_ok-roots.roots.count c.in_ok-roots.ensures c.in_err-words.ensures)
 
-pub read_next-steps-requires : goal.read_next-steps-requires
-read_next-steps-requires c = (next-ready c.read_next-roots.result c.read_next-words.ensures, few-frames (goal.at.read_next-steps-requires c).After-count_of-g, c.requires.events)
+pub returns-in_err-steps : goal.returns-in_err-steps
+returns-in_err-steps c =
+    let p = err_from_is_err_and c.from_residual-in_err-steps.result c.from_residual-in_err-steps.ensures.1 in
+    rw (p.1, p.2)
+    (then_events c.in_ok-frames.frames.count c.in_ok-frames.ensures c.in_ok-roots.roots.count c.in_ok-roots.ensures c.in_ok-words.words.count c.in_ok-words.ensures c.in_err-steps.ensures)
 
-pub read_next-asked-requires : goal.read_next-asked-requires
-read_next-asked-requires c = (next-ready c.read_next-words.result c.read_next-steps.ensures, few-frames (goal.at.read_next-asked-requires c).After-count_of-g, c.requires.questions)
+pub returns-in_err-asked : goal.returns-in_err-asked
+returns-in_err-asked c =
+    let p = err_from_is_err_and c.from_residual-in_err-asked.result c.from_residual-in_err-asked.ensures.1 in
+    rw (p.1, p.2)
+    (then_questions c.in_ok-frames.frames.count c.in_ok-frames.ensures c.in_ok-roots.roots.count c.in_ok-roots.ensures c.in_ok-words.words.count c.in_ok-words.ensures c.in_ok-steps.steps.count c.in_ok-steps.ensures c.in_err-asked.ensures)
 
-pub finish-requires : goal.finish-requires
-finish-requires c = next-ready c.read_next-steps.result c.read_next-asked.ensures
-
-pub shape_of-map : goal.shape_of-map
-shape_of-map c = c.read-frames.auto.buffer
+pub returns-in_err-test_end : goal.returns-in_err-test_end
+returns-in_err-test_end c =
+    let p = err_from_is_err_and c.from_residual-in_err-test_end.result c.from_residual-in_err-test_end.ensures.1 in
+    rw (p.1, p.2) (rw c.in_err-test_end.ensures.1
+    (over c.in_ok-frames.frames.count c.in_ok-frames.ensures c.in_ok-roots.roots.count c.in_ok-roots.ensures c.in_ok-words.words.count c.in_ok-words.ensures c.in_ok-steps.steps.count c.in_ok-steps.ensures c.in_ok-asked.asked.count c.in_ok-asked.ensures c.in_err-test_end.ensures.0))
 
 pub returns : goal.returns
 returns c =
-    parts_are _ _ _ _ _
-    c.count_of-g.ensures c.count_of-p.ensures c.count_of.ensures
-    c.count_of-2.ensures c.count_of-3.ensures
-    c.read-frames.ensures c.read_next-roots.ensures c.read_next-words.ensures
-    c.read_next-steps.ensures c.read_next-asked.ensures c.finish.ensures
+    whole c.in_ok-frames.frames.count c.in_ok-frames.ensures c.in_ok-roots.roots.count c.in_ok-roots.ensures c.in_ok-words.words.count c.in_ok-words.ensures c.in_ok-steps.steps.count c.in_ok-steps.ensures c.in_ok-asked.asked.count c.in_ok-asked.ensures c.in_ok-test_end.ensures

@@ -11,28 +11,27 @@ returns-in_err-count c =
     let a = c.args in
     let p = err_from_is_err_and c.from_residual.result c.from_residual.ensures.1 in
     rw (p.1, p.2)
-    (section_refused a.which a.g a.p a.text.now a.from.at
-    (due_bad (count_range a.which a.g) a.text.now a.from.at c.in_err-count.ensures))
+    (section_refused a.which a.limits.frames a.limits.processors a.text.now a.from.at
+    (due_bad (count_range a.which a.limits.frames) a.text.now a.from.at c.in_err-count.ensures))
 
 pub returns-then-not-in_count_range : goal.returns-then-not-in_count_range
 returns-then-not-in_count_range c =
     let a = c.args in
     rw c.out_of_range.ensures
-    (section_refused a.which a.g a.p a.text.now a.from.at
-    (due-out (count_range a.which a.g) a.text.now a.from.at c.in_ok-count.ensures (sym c.if-not-in_count_range.ensures)))
+    (section_refused a.which a.limits.frames a.limits.processors a.text.now a.from.at
+    (due-out (count_range a.which a.limits.frames) a.text.now a.from.at c.in_ok-count.ensures (sym c.if-not-in_count_range.ensures)))
 
 pub read_numbers-requires : goal.read_numbers-requires
 read_numbers-requires c =
     let a = c.args in
     let p = c.requires in (
       next-stands a.text.now a.from.at p.0.inside c.in_ok-count.ensures,
-      p.1,
-      omega (arith, p.2, count_fits a.which a.g c.in_ok-count.count.value p.1 (sym c.if-not-in_count_range.ensures)),
+      omega (arith, p.1, count_fits a.which a.limits.frames c.in_ok-count.count.value a.limits.few (sym c.if-not-in_count_range.ensures)),
     )
 
 pub returns : goal.returns
 returns c =
     let a = c.args in
-    rw (section_counted a.which a.g a.p a.text.now a.from.at
-    (due_in (count_range a.which a.g) a.text.now a.from.at c.in_ok-count.ensures (sym c.if-not-in_count_range.ensures)))
+    rw (section_counted a.which a.limits.frames a.limits.processors a.text.now a.from.at
+    (due_in (count_range a.which a.limits.frames) a.text.now a.from.at c.in_ok-count.ensures (sym c.if-not-in_count_range.ensures)))
     c.read_numbers.ensures

@@ -6,4 +6,4 @@ use Rattle.sections.proofs.read_numbers.Given as goal
 
 abbrev pub invariant-loop-i : goal.invariant-loop-i
 invariant-loop-i l =
-    Turned (in_range l.which l.g l.p) l.text l.initial.buffer l.initial.c.at (l.count * width l.which) l.buffer l.i l.c
+    Turned (in_range l.which l.limits.frames l.limits.processors) l.text l.initial.buffer l.initial.c.at (l.count * width l.which) l.buffer l.i l.c

@@ -1,16 +1,10 @@
 -- The roots below p are set.
 use mathlib.Core.Path.{◌≡◌}
-use Prim.Native.Nat.{◌-◌, ◌≤◌}
-use lib.ListN.{length, get_or}
+use lib.ListN.{get_or}
 use Rattle.paging.specs.Frame.{guest}
 use Rattle.paging.specs.Numbers.{each}
 use Rattle.tables.specs.State.{machine64, with_record, root_of}
 use Rattle.shadow.proofs.set_roots.Given as goal
 
 abbrev pub invariant-loop-p : goal.invariant-loop-p
-invariant-loop-p l =
-    (l.p ≤ l.z.processors) × (length l.records ≡ length l.initial.records)
-    × (l.records ≡ each l.p (λ k. with_record (root_of (machine64 l.z) k) 4 (guest (get_or l.cr3s k 0))) l.initial.records)
-
-abbrev pub decreases-loop-p : goal.decreases-loop-p
-decreases-loop-p l = l.z.processors - l.p
+invariant-loop-p l = l.records ≡ each l.p (λ k. with_record (root_of (machine64 l.z) k) 4 (guest (get_or l.cr3s k 0))) l.initial.records

@@ -9,37 +9,24 @@ use Rattle.paging.proofs.Counts.{sum_none, count_hit, count_miss, count_small}
 use Rattle.tables.proofs.count_free.Goals as goal
 use Rattle.tables.proofs.count_free.Goals.{then-may_take, else-may_take}
 
-pub table_count-n-requires : goal.table_count-n-requires
-table_count-n-requires c = c.requires
-
 pub loop-t-init : goal.loop-t-init
-loop-t-init c = (omega arith, sum_none _)
-
-pub may_take-requires : goal.may_take-requires
-may_take-requires c = (c.requires, omega (arith, few c.requires, c.table_count-n.ensures))
+loop-t-init c = sum_none _
 
 pub overflow_add-free : goal.overflow_add-free
 overflow_add-free c =
     let a = c.args in
-    omega (arith, few c.requires, c.table_count-n.ensures, count_small c.loop-t.t (may_take (machine64 a.z) a.p a.records.now))
+    omega (arith, few c.requires, count_small c.loop-t.t (may_take (machine64 a.z) a.p a.records.now))
 
 pub loop-t-preserved : goal.loop-t-preserved
 loop-t-preserved c =
-    let a = c.args in
-    let f = may_take (machine64 a.z) a.p a.records.now in
-    let t = c.loop-t.t in
-    let e = c.loop-t.invariant.1 in
-    let m = sym c.may_take.ensures in (
-      omega arith,
-      elim c.if-may_take.branch [
-        | then-may_take w ↦ w.free-is ∙ count_hit t f e (m ∙ w.if-may_take.true)
-        | else-may_take w ↦ w.free-is ∙ count_miss t f e (m ∙ w.if-may_take.false)
-      ],
-    )
+    elim c.if-may_take.branch [
+      | then-may_take w ↦ w.free-is ∙ count_hit c.loop-t.t _ c.loop-t.invariant (sym c.may_take.ensures ∙ w.if-may_take.true)
+      | else-may_take w ↦ w.free-is ∙ count_miss c.loop-t.t _ c.loop-t.invariant (sym c.may_take.ensures ∙ w.if-may_take.false)
+    ]
 
 pub returns : goal.returns
 unfolding free_count
 returns c =
     let a = c.args in
-    c.loop-t.invariant.1
-    ∙ ap (λ (n : ℕ). count n (may_take (machine64 a.z) a.p a.records.now)) (omega (arith, c.table_count-n.ensures))
+    c.loop-t.invariant
+    ∙ ap (λ (n : ℕ). count n (may_take (machine64 a.z) a.p a.records.now)) (omega arith)

@@ -1,7 +1,5 @@
--- The tables below t are done.
+-- The tables below t are emptied, where they are p's.
 use mathlib.Core.Path.{◌≡◌}
-use Prim.Native.Nat.{◌-◌, ◌≤◌}
-use lib.ListN.{length}
 use Rattle.paging.specs.Numbers.{each}
 use Rattle.tables.specs.State.{machine64, shadow_of}
 use Rattle.tables.specs.Steps.{empty_own}
@@ -9,8 +7,4 @@ use Rattle.tables.proofs.empty_share.Given as goal
 
 abbrev pub invariant-loop-t : goal.invariant-loop-t
 invariant-loop-t l =
-    (l.t ≤ l.n) × (length l.pool ≡ length l.initial.pool) × (length l.records ≡ length l.initial.records)
-    × (shadow_of l.pool l.records ≡ each l.t (empty_own (machine64 l.z) l.p) (shadow_of l.initial.pool l.initial.records))
-
-abbrev pub decreases-loop-t : goal.decreases-loop-t
-decreases-loop-t l = l.n - l.t
+    shadow_of l.pool l.records ≡ each l.t (empty_own (machine64 l.z) l.p) (shadow_of l.initial.pool l.initial.records)

@@ -1,47 +1,21 @@
-use mathlib.Core.Path.{◌≡◌, sym, ap, ◌∙◌}
-use Prim.Native.Nat.{ℕ, ◌+◌, ◌-◌}
-use native.Mathlib.Omega.{arith}
-use Rattle.paging.specs.Numbers.{first_from}
+use mathlib.Core.Path.{◌≡◌, ap, ◌∙◌}
+use mathlib.Core.Bool.{true, false, cond}
+use Prim.Native.Nat.{ℕ}
+use lib.Dec.{ltb}
+use borrow.Author.Tests.{tests}
+use Rattle.std.specs.Prelude.{Some, None}
+use Rattle.std.proofs.Common.{rules}
+use Rattle.std.proofs.lemmas.Iterator.{first_from_Range}
+use Rattle.paging.specs.Numbers.{first}
 use Rattle.tables.specs.State.{machine64}
 use Rattle.tables.specs.Steps.{may_take, taken}
-use Rattle.tables.proofs.Names.{few}
-use Rattle.paging.proofs.Counts.{first-here, first_on, first_none}
+use Rattle.tables.proofs.Takes.{first_by}
 use Rattle.tables.proofs.next_free.Goals as goal
 
-pub table_count-n-requires : goal.table_count-n-requires
-table_count-n-requires c = c.requires
-
-pub loop-t-init : goal.loop-t-init
-unfolding taken
-loop-t-init c =
-    let a = c.args in
-    (omega arith, ap (λ (n : ℕ). first_from 0 n (may_take (machine64 a.z) a.p a.records.now)) (omega (arith, c.table_count-n.ensures)))
-
-pub may_take-requires : goal.may_take-requires
-may_take-requires c = (c.requires, omega (arith, few c.requires, c.table_count-n.ensures))
-
-pub returns-then-may_take : goal.returns-then-may_take
-returns-then-may_take c =
-    let a = c.args in
-    let t = c.loop-t.t in
-    let n = c.table_count-n.result in
-    first-here (may_take (machine64 a.z) a.p a.records.now) t (n - t) (n - (t + 1)) (omega arith) (sym c.may_take.ensures ∙ c.if-may_take.true)
-    ∙ c.loop-t.invariant.1
-
-pub loop-t-preserved : goal.loop-t-preserved
-loop-t-preserved c =
-    let a = c.args in
-    let t = c.loop-t.t in
-    let n = c.table_count-n.result in (
-      omega arith,
-      first_on (may_take (machine64 a.z) a.p a.records.now) t (n - t) (n - (t + 1)) (omega arith) (sym c.may_take.ensures ∙ c.if-may_take.false)
-          ∙ c.loop-t.invariant.1,
-    )
-
 pub returns : goal.returns
+unfolding taken
 returns c =
-    let a = c.args in
-    let t = c.loop-t.t in
-    let n = c.table_count-n.result in
-    let all : n ≡ t = omega arith in
-    all ∙ first_none (may_take (machine64 a.z) a.p a.records.now) t (n - t) (omega arith) ∙ c.loop-t.invariant.1
+    let f = may_take (machine64 c.args.z) c.args.p c.args.records.now in
+    first_by f _ c.find.result
+    (first_from_Range _ _ _ _ (λ k. f k ≡ true) (λ k. f k ≡ false) c.find.ensures.ran (λ x q k. search (rules, tests)) (λ x q k. search (rules, tests)))
+    ∙ ap (λ (n : ℕ). cond (ltb (first n f) n) (Some (first n f)) None) c.table_count.ensures

@@ -1,16 +1,12 @@
--- What is left to settle says the same at every turn, and nothing is changed until the first difference.
+-- What is left to settle says the same at every turn.
 use mathlib.Core.Path.{◌≡◌}
-use lib.ListN.{length}
 use Rattle.tables.specs.State.{machine64, shadow_of}
-use Rattle.tables.specs.Steps.{settle}
+use Rattle.tables.specs.Steps.{spot, settle}
 use Rattle.tables.specs.SizesCode.{SpotFits}
 use Rattle.tables.proofs.settle.Given as goal
 
-abbrev pub invariant-loop-w : goal.invariant-loop-w
-invariant-loop-w l =
-    SpotFits l.z l.w × (length l.pool ≡ length l.initial.pool) × (length l.records ≡ length l.initial.records)
-    × (settle (machine64 l.z) l.words l.page l.w.missing l.w.table l.w.frame (shadow_of l.pool l.records)
-    ≡ settle (machine64 l.z) l.words l.page l.initial.w.missing l.initial.w.table l.initial.w.frame (shadow_of l.initial.pool l.initial.records))
-
-abbrev pub decreases-loop-w : goal.decreases-loop-w
-decreases-loop-w l = l.w.missing
+abbrev pub invariant-loop-missing : goal.invariant-loop-missing
+invariant-loop-missing l =
+    SpotFits l.z (spot l.missing l.table l.frame)
+    × (settle (machine64 l.z) l.words l.page l.missing l.table l.frame (shadow_of l.pool l.records)
+    ≡ settle (machine64 l.z) l.words l.page l.fn.from.missing l.fn.from.table l.fn.from.frame (shadow_of l.initial.pool l.initial.records))

@@ -1,35 +1,21 @@
-use mathlib.Core.Path.{refl, sym, ap, ◌∙◌}
-use mathlib.Core.List.{List}
-use Prim.Native.Nat.{ℕ}
+use mathlib.Core.Path.{◌≡◌, refl, sym, ap, ◌∙◌}
+use Prim.Native.Nat.{ℕ, ◌*◌, ◌-◌}
 use native.Mathlib.Omega.{arith}
-use Rattle.paging.specs.Layout.{tables64, put}
-use Rattle.paging.specs.Numbers.{each}
+use lib.ListN.{replicate, length-replicate}
+use Rattle.std.proofs.Common.{rules}
+use Rattle.std.proofs.Math.Seq.{paste}
+use Rattle.std.proofs.lemmas.Slice.{put_mid-paste}
+use Rattle.paging.specs.Layout.{put}
 use Rattle.tables.specs.Steps.{zeroed}
-use Rattle.paging.proofs.Numbers.{each_none, each_more}
+use Rattle.tables.proofs.Zeros.{each_zero}
 use Rattle.tables.proofs.zero_table.Goals as goal
 
-pub loop-i-init : goal.loop-i-init
-loop-i-init c = (omega arith, refl, sym (each_none _ _))
-
-pub write_entry-requires : goal.write_entry-requires
-write_entry-requires c = omega (arith, c.requires)
-
-pub loop-i-preserved : goal.loop-i-preserved
-loop-i-preserved c =
-    let a = c.args in
-    let l = c.loop-i in
-    let f : ℕ → List ℕ → List ℕ = λ k x. put tables64 x a.t k 0 in (
-      omega arith,
-      c.write_entry.auto.words ∙ l.invariant.1,
-      c.write_entry.ensures ∙ ap (f l.i) l.invariant.2 ∙ sym (each_more f a.pool.now l.i),
-    )
-
-pub shape_of-pool : goal.shape_of-pool
-shape_of-pool c = c.loop-i.invariant.1
-
 pub returns : goal.returns
-unfolding zeroed
+unfolding zeroed put
 returns c =
     let a = c.args in
-    let l = c.loop-i in
-    l.invariant.2 ∙ ap (λ (n : ℕ). each n (λ k x. put tables64 x a.t k 0) a.pool.now) (omega arith)
+    let n = c.min-end.result - c.min-start.result in
+    let z : c.fill.new.self ≡ replicate n 0 = search rules in
+    put_mid-paste c.min-start.result n a.pool.now c.fill.new.self (replicate n 0) n z refl (sym (length-replicate n 0))
+    ∙ ap (λ (s : ℕ). paste a.pool.now s (replicate n 0) n) c.min-start.ensures
+    ∙ sym (each_zero a.pool.now (512 * a.t) 512 n (omega arith))

@@ -1,39 +1,21 @@
--- A buffer of another length is refused; else the text is read, and its refusal or the program's lines are written from the first byte on.
-use mathlib.Core.Path.{refl, subst, subst⁻¹}
-use native.Mathlib.Omega.{arith}
-use Rattle.sections.specs.Sections.{got, refused}
-use Rattle.puzzle.specs.Buffers.{Buffers, buffers}
-use Rattle.render.specs.Render.{render_refusal}
-use Rattle.trainer.specs.Call.{puzzle_in}
-use Rattle.trainer.specs.PartsCode.{LinesOf, Printable, AllPut}
-use Rattle.trainer.proofs.Wholes.{zeros, says, told, took, call_by}
+-- A buffer of another length is refused; else all is written from its first byte on.
+use mathlib.Core.Path.{◌≡◌, subst⁻¹}
+use Rattle.std.specs.Prelude.{Result, Err}
+use Rattle.std.proofs.Common.{rules}
+use Rattle.rules.specs.declared.Refusal.{Refusal}
+use Rattle.trainer.specs.declared.Written.{Written}
+use Rattle.trainer.specs.Call.{Call, told}
+use Rattle.trainer.specs.PartsCode.{LinesOf}
+use Rattle.trainer.proofs.Wholes.{call_by, call_refused, fits_output}
 use Rattle.trainer.proofs.print.Goals as goal
 
-pub returns-then-output-ne-OUTPUT_SIZE : goal.returns-then-output-ne-OUTPUT_SIZE
-returns-then-output-ne-OUTPUT_SIZE c = record { refused = λ n. (refl, refl); printed = λ e. absurd (c.if-output-ne-OUTPUT_SIZE.true e) }
-
-pub put_puzzle-requires : goal.put_puzzle-requires
-put_puzzle-requires c =
-    let l = c.read.new in
-    let t = took c.args.text.now (buffers l.map l.cr3s l.words l.events l.questions) (says c.args.text.now _ c.in-Accepted.is c.read.ensures) in
-    (c.if-output-ne-OUTPUT_SIZE.false, t.counts, subst⁻¹ Printable t.fronts t.ready)
-
-pub returns-in-Refused : goal.returns-in-Refused
-returns-in-Refused c =
+pub returns-in_err-unless : goal.returns-in_err-unless
+returns-in_err-unless c =
     let a = c.args in
-    let l = c.read.new in
-    let new = buffers l.map l.cr3s l.words l.events l.questions in
-    let bytes = render_refusal c.in-Refused.number c.in-Refused.line in
-    let m = told (puzzle_in a.text.now) zeros new (says a.text.now new c.in-Refused.is c.read.ensures) in
-    call_by (LinesOf a.program) a.text.now a.output.now c.put_line-n.result c.put_line-n.new.out bytes
-    (refused c.in-Refused.number c.in-Refused.line) m refl c.put_line-n.ensures.0 (omega (arith, c.put_line-n.ensures.1)) c.if-output-ne-OUTPUT_SIZE.false
+    let q : c.from_residual.result ≡ Err c.in_err-unless.field-0.0 = search rules in
+    subst⁻¹ (λ (r : Result Written Refusal). Call (LinesOf a.program) a.text.now a.output.now (told r) a.output.now) q (call_refused c.in_err-unless.field-0.0 c.in_err-unless.ensures)
 
-pub returns-in-Accepted : goal.returns-in-Accepted
-returns-in-Accepted c =
-    let a = c.args in
-    let l = c.read.new in
-    let new = buffers l.map l.cr3s l.words l.events l.questions in
-    let t = took a.text.now new (says a.text.now new c.in-Accepted.is c.read.ensures) in
-    let r = subst (λ (b : Buffers). AllPut (LinesOf a.program) b a.output.now c.put_puzzle.result c.put_puzzle.new.out) t.fronts c.put_puzzle.ensures in
-    call_by (LinesOf a.program) a.text.now a.output.now c.put_puzzle.result c.put_puzzle.new.out r.bytes
-    (got t.puzzle t.place) t.is r.lines r.wrote r.few c.if-output-ne-OUTPUT_SIZE.false
+pub returns : goal.returns
+returns c =
+    let s = c.new-printer.ensures in
+    call_by c.print.ensures s.0 s.2 (search rules) (fits_output _ c.in_ok-unless.ensures)

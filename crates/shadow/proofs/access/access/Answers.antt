@@ -1,16 +1,14 @@
 -- Three ways out: a slot, the shadow path, a miss.
-use mathlib.Core.Path.{◌≡◌, sym, ap, ◌∙◌, subst⁻¹}
-use Prim.Native.Nat.{ℕ, ◌+◌, ◌/◌, ◌<◌, ◌≤◌}
+use mathlib.Core.Path.{◌≡◌, refl, sym, ap, ◌∙◌, subst⁻¹}
+use Prim.Native.Nat.{ℕ, ◌<◌, ◌≤◌}
 use native.Mathlib.Omega.{arith}
-use lib.ListN.{get_or}
-use Rattle.paging.specs.declared.Host.{Host}
 use Rattle.paging.specs.declared.Request.{Request}
-use Rattle.paging.specs.Frame.{guest, host, host_of, host_address}
+use Rattle.paging.specs.Frame.{host, host_address}
 use Rattle.paging.specs.Layout.{tables64, index}
 use Rattle.paging.proofs.Indices.{index_small}
 use Rattle.tables.specs.State.{shadow_of, state_of, machine64}
 use Rattle.tables.proofs.Names.{few, root_small, frame_small}
-use Rattle.shadow.proofs.Accesses.{needs_small, adds_small, OnPath, path_range, access_slot, access_path, access_miss}
+use Rattle.shadow.proofs.Accesses.{needs_small, adds_small, OnPath, path_range, access_path, access_miss}
 use Rattle.shadow.proofs.access.access.Goals as goal
 use Rattle.shadow.proofs.access.access.Goals.{After-index_of, After-path_to-w, After-request_of-q}
 
@@ -26,36 +24,16 @@ on-path : (c : After-path_to-w) → OnPath (machine64 c.args.z) 1 c.path_to-w.re
 on-path c =
     let a = c.args in
     subst⁻¹ (OnPath (machine64 a.z) 1) c.path_to-w.ensures
-    (path_range (machine64 a.z) a.pool.now a.p c.page_of-page.result 1 (omega (arith, root_small c.requires.ready.sized a.p c.requires.ready.own)) (omega arith))
+    (path_range (machine64 a.z) a.pool.now a.p c.page_of-page.result 1 (omega (arith, root_small c.requires.ready.owner.sized a.p c.requires.ready.owner.own)) (omega arith))
 
 index_is : (c : After-index_of) → OnPath (machine64 c.args.z) 1 c.path_to-w.result → c.index_of.result ≡ index tables64 c.page_of-page.result c.path_to-w.result.level
 index_is c on = c.index_of.ensures ∙ ap (index tables64 c.page_of-page.result) (sym on.level)
 
-pub request_of-q-requires : goal.request_of-q-requires
-request_of-q-requires c = c.requires.request_bound
-
-pub serving_slot-k-requires : goal.serving_slot-k-requires
-serving_slot-k-requires c = (omega (arith, c.requires.ready.own, c.requires.ready.sized.processors), c.requires.ready.triples, needs-of (goal.at.serving_slot-k-requires c).After-request_of-q)
-
-pub slot_at-at-requires : goal.slot_at-at-requires
-slot_at-at-requires c = (omega (arith, c.requires.ready.own, c.requires.ready.sized.processors), c.if-k-lt-SLOTS.true)
-
-pub host_address-requires : goal.host_address-requires
-host_address-requires c = omega (arith, ap (λ (h : Host). h.0) c.host_of.ensures, c.requires.ready.hosts (get_or c.args.slots.now (c.slot_at-at.result + 2) 0 / 8))
-
-pub returns-then-k-lt-SLOTS : goal.returns-then-k-lt-SLOTS
-returns-then-k-lt-SLOTS c =
-    let a = c.args in
-    access_slot (machine64 a.z) a.map.now a.p a.a a.request (state_of a.words.now (shadow_of a.pool.now a.records.now) a.slots.now)
-    c.page_of-page.ensures c.request_of-q.ensures c.serving_slot-k.ensures c.if-k-lt-SLOTS.true
-    (c.host_address.ensures
-    ∙ ap (λ (h : Host). host_address h a.a) (c.host_of.ensures ∙ ap (λ (x : ℕ). host_of a.map.now (guest (get_or a.slots.now (x + 2) 0 / 8))) c.slot_at-at.ensures))
-
-pub path_to-w-requires : goal.path_to-w-requires
-path_to-w-requires c = (c.requires.ready.sized, c.requires.ready.own, omega arith)
+pub serving_slot-requires : goal.serving_slot-requires
+serving_slot-requires c = ((omega (arith, c.requires.ready.owner.own, c.requires.ready.owner.sized.processors), c.requires.ready.owner.triples), needs-of (goal.at.serving_slot-requires c).After-request_of-q)
 
 pub entry_at-e-requires : goal.entry_at-e-requires
-entry_at-e-requires c = (omega (arith, (on-path (goal.at.entry_at-e-requires c).After-path_to-w).table, few c.requires.ready.sized), omega (arith, c.index_of.ensures, index_small tables64 c.page_of-page.result 1))
+entry_at-e-requires c = (omega (arith, (on-path (goal.at.entry_at-e-requires c).After-path_to-w).table, few c.requires.ready.owner.sized), omega (arith, c.index_of.ensures, index_small tables64 c.page_of-page.result 1))
 
 pub path_serves-requires : goal.path_serves-requires
 path_serves-requires c = ((on-path (goal.at.path_serves-requires c).After-path_to-w).rights, needs-of (goal.at.path_serves-requires c).After-request_of-q)
@@ -67,7 +45,7 @@ pub returns-then-path_serves : goal.returns-then-path_serves
 returns-then-path_serves c =
     let a = c.args in
     access_path (machine64 a.z) a.map.now a.p a.a a.request (state_of a.words.now (shadow_of a.pool.now a.records.now) a.slots.now)
-    c.page_of-page.ensures c.request_of-q.ensures c.serving_slot-k.ensures c.if-k-lt-SLOTS.false
+    c.page_of-page.ensures c.request_of-q.ensures refl c.in_default.ensures
     c.path_to-w.result _ _ c.path_to-w.ensures (index_is (goal.at.returns-then-path_serves c).After-index_of (on-path (goal.at.returns-then-path_serves c).After-path_to-w)) c.entry_at-e.ensures
     (sym c.path_serves.ensures ∙ c.if-path_serves.true)
     (c.host_address-then-path_serves.ensures ∙ ap (λ (f : ℕ). host_address (host f) a.a) c.frame_of.ensures)
@@ -79,7 +57,7 @@ pub returns : goal.returns
 returns c =
     let a = c.args in
     access_miss (machine64 a.z) a.map.now a.p a.a a.request (state_of a.words.now (shadow_of a.pool.now a.records.now) a.slots.now)
-    c.page_of-page.ensures c.request_of-q.ensures c.serving_slot-k.ensures c.if-k-lt-SLOTS.false
+    c.page_of-page.ensures c.request_of-q.ensures refl c.in_default.ensures
     c.path_to-w.result _ _ c.path_to-w.ensures (index_is (goal.at.returns c).After-index_of (on-path (goal.at.returns c).After-path_to-w)) c.entry_at-e.ensures
     (sym c.path_serves.ensures ∙ c.if-path_serves.false)
     c.miss.ensures

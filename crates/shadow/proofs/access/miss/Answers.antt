@@ -1,14 +1,13 @@
 -- The walk ends in a fault, without a right, or in a fill.
-use mathlib.Core.Path.{◌≡◌, sym, ap, ◌∙◌}
+use mathlib.Core.Path.{◌≡◌, ap, ◌∙◌}
 use Prim.Native.Nat.{◌<◌, ◌^◌}
 use native.Mathlib.Omega.{arith}
+use Rattle.std.specs.Prelude.{Ok}
 use Rattle.paging.specs.declared.Guest.{Guest}
-use Rattle.paging.specs.declared.Walk.{Walk}
 use Rattle.paging.specs.Layout.{tables64}
-use Rattle.tables.specs.State.{shadow_of, state_of, machine64, shadows}
-use Rattle.tables.proofs.Names.{few, root_small}
-use Rattle.shadow.proofs.Walking.{InRange, guest_range, miss_fault, miss_lacks, miss_fills}
-use Rattle.guest.specs.declared.Walked.TheVariants.{Whole, Fault}
+use Rattle.guest.specs.declared.Walked.{Walked}
+use Rattle.tables.specs.State.{shadows}
+use Rattle.shadow.proofs.Walking.{InRange, guest_range}
 use Rattle.shadow.proofs.access.miss.Goals as goal
 use Rattle.shadow.proofs.access.miss.Goals.{After-shadowed_by-cr3, After-walk_guest}
 
@@ -20,53 +19,13 @@ cr3-small c =
 range : (c : After-walk_guest) → c.shadowed_by-cr3.result.0 < 2 ^ 40 → InRange (2 ^ 40) c.walk_guest.result
 range c small =
     let a = c.args in
-    guest_range tables64 a.z.frames a.page (2 ^ 40) (omega (arith, c.requires.ready.sized.frames)) a.words.now c.shadowed_by-cr3.result small c.walk_guest.ensures
+    guest_range tables64 a.z.frames a.page (2 ^ 40) (omega (arith, c.requires.ready.owner.sized.frames)) a.words.now c.shadowed_by-cr3.result small c.walk_guest.ensures
 
-whole-range : (c : After-walk_guest) → c.shadowed_by-cr3.result.0 < 2 ^ 40 → (last : Guest) (w : Walk) → c.walk_guest.result ≡ Whole last w → (last.0 < 2 ^ 40) × (w.rights < 8)
-whole-range c small last w q = rw q at (range c small)
-
-pub root_of-requires : goal.root_of-requires
-root_of-requires c = (c.requires.ready.sized, c.requires.ready.own)
-
-pub shadowed_by-cr3-requires : goal.shadowed_by-cr3-requires
-shadowed_by-cr3-requires c = omega (arith, c.root_of.ensures, root_small c.requires.ready.sized c.args.p c.requires.ready.own, few c.requires.ready.sized)
-
-pub walk_guest-requires : goal.walk_guest-requires
-walk_guest-requires c = (c.requires.ready.sized.frames, cr3-small (goal.at.walk_guest-requires c).After-shadowed_by-cr3)
-
-pub overflow_add-result : goal.overflow_add-result
-overflow_add-result c =
-    let q : InRange (2 ^ 40) (Fault c.in-Fault.base) = rw c.in-Fault.is at (range (goal.at.overflow_add-result c).After-walk_guest (cr3-small (goal.at.overflow_add-result c).After-shadowed_by-cr3)) in
-    omega (arith, c.requires.needs_bound.1)
+whole-range : (c : After-walk_guest) → c.shadowed_by-cr3.result.0 < 2 ^ 40 → (x : Walked) → c.walk_guest.result ≡ Ok x → (x.last.0 < 2 ^ 40) × (x.walk.rights < 8)
+whole-range c small x q = rw q at (range c small)
 
 pub has_enough-requires : goal.has_enough-requires
-has_enough-requires c = (c.requires.needs_bound.0, (whole-range (goal.at.has_enough-requires c).After-walk_guest (cr3-small (goal.at.has_enough-requires c).After-shadowed_by-cr3) c.in-Whole.last c.in-Whole.w c.in-Whole.is).1)
-
-pub returns-then-not-has_enough : goal.returns-then-not-has_enough
-returns-then-not-has_enough c =
-    let a = c.args in
-    miss_lacks (machine64 a.z) a.map.now a.p a.page a.q (state_of a.words.now (shadow_of a.pool.now a.records.now) a.slots.now)
-    c.root_of.ensures c.shadowed_by-cr3.ensures c.walk_guest.ensures c.in-Whole.is
-    (sym c.has_enough.ensures ∙ c.if-not-has_enough.true)
+has_enough-requires c = (c.requires.needs_bound.0, (whole-range (goal.at.has_enough-requires c).After-walk_guest (cr3-small (goal.at.has_enough-requires c).After-shadowed_by-cr3) c.in-Ok.walked c.in-Ok.is).1)
 
 pub set_d-requires : goal.set_d-requires
-set_d-requires c = (whole-range (goal.at.set_d-requires c).After-walk_guest (cr3-small (goal.at.set_d-requires c).After-shadowed_by-cr3) c.in-Whole.last c.in-Whole.w c.in-Whole.is).0
-
-pub fill-requires : goal.fill-requires
-fill-requires c = c.requires.ready
-
-pub returns-in-Fault : goal.returns-in-Fault
-returns-in-Fault c =
-    let a = c.args in
-    miss_fault (machine64 a.z) a.map.now a.p a.page a.q (state_of a.words.now (shadow_of a.pool.now a.records.now) a.slots.now)
-    c.root_of.ensures c.shadowed_by-cr3.ensures c.walk_guest.ensures c.in-Fault.is
-
-pub returns-else-not-has_enough : goal.returns-else-not-has_enough
-returns-else-not-has_enough c =
-    let filled = c.fill.ensures in
-    let dirtied = c.set_d.ensures in
-    let enough = sym c.has_enough.ensures ∙ c.if-not-has_enough.false in
-    let whole = c.in-Whole.is in
-    let a = c.args in
-    miss_fills (machine64 a.z) a.map.now a.p a.page a.q (state_of a.words.now (shadow_of a.pool.now a.records.now) a.slots.now)
-    c.root_of.ensures c.shadowed_by-cr3.ensures c.walk_guest.ensures whole enough dirtied filled
+set_d-requires c = (whole-range (goal.at.set_d-requires c).After-walk_guest (cr3-small (goal.at.set_d-requires c).After-shadowed_by-cr3) c.in-Ok.walked c.in-Ok.is).0

@@ -1,111 +1,44 @@
--- Enough tables are free once the fill has settled, or three are after emptying; the two arms are the cases of a fill.
+-- Enough tables are free once the fill has settled, or three are after emptying.
 use mathlib.Core.Path.{ap, ◌∙◌, subst⁻¹}
-use Prim.Native.Nat.{◌<◌, ◌≤◌}
+use Prim.Native.Nat.{◌≤◌}
 use native.Mathlib.Omega.{arith}
 use Rattle.paging.specs.declared.Guest.{Guest}
-use Rattle.tables.specs.State.{Shadow, shadow_of, state_of, machine64, table_count, shadows}
-use Rattle.tables.specs.SizesCode.{Room, SpotFits}
+use Rattle.tables.specs.State.{Shadow, shadow_of, machine64, shadows}
+use Rattle.tables.specs.SizesCode.{SpotFits}
 use Rattle.tables.specs.Steps.{Settled, spot, free_count}
-use Rattle.tables.proofs.Names.{few, root_small}
+use Rattle.tables.proofs.Names.{root_small}
 use Rattle.shadow.proofs.Shares.{enough_free}
-use Rattle.shadow.proofs.Filling.{fill-emptied, fill_built, settled_spot}
+use Rattle.shadow.proofs.Filling.{settled_spot}
 use Rattle.shadow.proofs.fill.fill.Goals as goal
-use Rattle.shadow.proofs.fill.fill.Goals.{After-empty_share, After-root_of-root, After-settle-w, After-shadowed_by-cr3}
+use Rattle.shadow.proofs.fill.fill.Goals.{After-shadowed_by-cr3, then-count_free-from, else-count_free-from}
 
--- the root, and where a fill begins
-root-within : (c : After-root_of-root) → c.root_of-root.result < table_count (machine64 c.args.z)
-root-within c = omega (arith, c.root_of-root.ensures, root_small c.requires.sized c.args.p c.requires.own)
-
-from-top : (c : After-shadowed_by-cr3) → c.root_of-root.result < table_count (machine64 c.args.z)
-    → SpotFits c.args.z (spot 3 c.root_of-root.result c.shadowed_by-cr3.result)
-from-top c within =
+-- where a fill begins
+from-top : (c : After-shadowed_by-cr3) → SpotFits c.args.z (spot 3 c.root_of-root.result c.shadowed_by-cr3.result)
+from-top c =
     record {
       missing = omega arith;
-      table = within;
+      table = omega (arith, c.root_of-root.ensures, root_small c.requires.owner.sized c.args.p c.requires.owner.own);
       frame = omega (arith, ap (λ (g : Guest). g.0) (c.shadowed_by-cr3.ensures ∙ ap (shadows c.args.records.now) c.root_of-root.ensures), c.requires.cr3);
     }
 
--- where it has settled
-room_settled : (c : After-settle-w) → Room c.args.z c.settle-w.new.records
-room_settled c = record { sized = c.requires.sized; pairs = c.settle-w.auto.records ∙ c.requires.pairs }
-
-on-table : (c : After-settle-w) → SpotFits c.args.z (spot 3 c.root_of-root.result c.shadowed_by-cr3.result) → SpotFits c.args.z c.settle-w.result
-on-table c top =
+pub build_path-requires-clause-spot_fits : goal.build_path-requires-clause-spot_fits
+build_path-requires-clause-spot_fits c =
     let a = c.args in
-    subst⁻¹ (SpotFits a.z) (ap (λ (d : Settled). d.spot) c.settle-w.ensures)
-    (settled_spot a.z a.words.now a.page 3 c.root_of-root.result c.shadowed_by-cr3.result (shadow_of a.pool.now a.records.now) top.missing top.table top.frame)
-
--- the share that was emptied
-room-emptied : (c : After-empty_share) → Room c.args.z c.settle-w.new.records → Room c.args.z c.empty_share.new.records
-room-emptied c room = record { sized = room.sized; pairs = c.empty_share.auto.records ∙ room.pairs }
-
-three : (c : After-empty_share) → 3 ≤ free_count (machine64 c.args.z) c.args.p c.empty_share.new.records
-three c =
-    let M = machine64 c.args.z in
-    let h = c.settle-w.new in
-    omega (
-      arith,
-      ap (λ (h : Shadow). free_count M c.args.p h.records) c.empty_share.ensures,
-      enough_free M c.requires.sized.some c.requires.spare c.args.p c.requires.own (shadow_of h.pool h.records),
-    )
-
-pub shadowed_by-cr3-requires : goal.shadowed_by-cr3-requires
-shadowed_by-cr3-requires c = omega (arith, root-within (goal.at.shadowed_by-cr3-requires c).After-root_of-root, few c.requires.sized)
-
-pub settle-w-requires : goal.settle-w-requires
-settle-w-requires c = record { room = search; spot_fits = from-top (goal.at.settle-w-requires c).After-shadowed_by-cr3 (root-within (goal.at.settle-w-requires c).After-root_of-root) }
-
-pub empty_share-requires : goal.empty_share-requires
-empty_share-requires c = record { room = room_settled (goal.at.empty_share-requires c).After-settle-w; p_lt_processors = c.requires.own }
-
-pub empty_slots-requires : goal.empty_slots-requires
-empty_slots-requires c = (omega (arith, c.requires), c.requires.triples)
-
-pub build_path-requires : goal.build_path-requires
-build_path-requires c = record { room = room-emptied (goal.at.build_path-requires c).After-empty_share (room_settled (goal.at.build_path-requires c).After-settle-w); spot_fits = (from-top (goal.at.build_path-requires c).After-shadowed_by-cr3 (root-within (goal.at.build_path-requires c).After-root_of-root), three (goal.at.build_path-requires c).After-empty_share); by_index = c.requires.hosts }
-
-pub flush-requires : goal.flush-requires
-flush-requires c = (omega (arith, c.requires), omega (arith, c.empty_slots.auto.slots, c.requires.triples))
-
-pub build_path-requires-else-count_free-w : goal.build_path-requires-else-count_free-w
-build_path-requires-else-count_free-w c = record { room = room_settled (goal.at.build_path-requires-else-count_free-w c).After-settle-w; spot_fits = (on-table (goal.at.build_path-requires-else-count_free-w c).After-settle-w (from-top (goal.at.build_path-requires-else-count_free-w c).After-shadowed_by-cr3 (root-within (goal.at.build_path-requires-else-count_free-w c).After-root_of-root)), omega (arith, c.if-count_free-w.false, c.count_free.ensures)); by_index = c.requires.hosts }
-
-pub flush-requires-else-count_free-w : goal.flush-requires-else-count_free-w
-flush-requires-else-count_free-w c = (omega (arith, c.requires), c.requires.triples)
-
-pub shape_of-pool-then-count_free-w : goal.shape_of-pool-then-count_free-w
-shape_of-pool-then-count_free-w c = c.build_path.auto.pool ∙ c.empty_share.auto.pool ∙ c.settle-w.auto.pool
-
-pub shape_of-records-then-count_free-w : goal.shape_of-records-then-count_free-w
-shape_of-records-then-count_free-w c = c.build_path.auto.records ∙ c.empty_share.auto.records ∙ c.settle-w.auto.records
-
-pub shape_of-slots-then-count_free-w : goal.shape_of-slots-then-count_free-w
-shape_of-slots-then-count_free-w c = c.flush.auto.slots ∙ c.empty_slots.auto.slots
-
-pub returns-then-count_free-w : goal.returns-then-count_free-w
-returns-then-count_free-w c =
-    let flushed = c.flush.ensures in
-    let built = c.build_path.ensures in
-    let dropped = c.empty_slots.ensures in
-    let a = c.args in
-    fill-emptied (machine64 a.z) a.map.now a.p a.page (state_of a.words.now (shadow_of a.pool.now a.records.now) a.slots.now)
-    c.root_of-root.ensures c.shadowed_by-cr3.ensures c.settle-w.ensures c.count_free.ensures c.if-count_free-w.true
-    c.empty_share.ensures dropped built flushed
-
-pub shape_of-pool-else-count_free-w : goal.shape_of-pool-else-count_free-w
-shape_of-pool-else-count_free-w c = c.build_path-else-count_free-w.auto.pool ∙ c.settle-w.auto.pool
-
-pub shape_of-records-else-count_free-w : goal.shape_of-records-else-count_free-w
-shape_of-records-else-count_free-w c = c.build_path-else-count_free-w.auto.records ∙ c.settle-w.auto.records
-
-pub shape_of-slots-else-count_free-w : goal.shape_of-slots-else-count_free-w
-shape_of-slots-else-count_free-w c = c.flush-else-count_free-w.auto.slots
-
-pub returns-else-count_free-w : goal.returns-else-count_free-w
-returns-else-count_free-w c =
-    let flushed = c.flush-else-count_free-w.ensures in
-    let built = c.build_path-else-count_free-w.ensures in
-    let enough = c.if-count_free-w.false in
-    let a = c.args in
-    fill_built (machine64 a.z) a.map.now a.p a.page (state_of a.words.now (shadow_of a.pool.now a.records.now) a.slots.now)
-    c.root_of-root.ensures c.shadowed_by-cr3.ensures c.settle-w.ensures c.count_free.ensures enough built flushed
+    let M = machine64 a.z in
+    let top = from-top (goal.at.build_path-requires-clause-spot_fits c).After-shadowed_by-cr3 in
+    let h = c.settle-from.new in
+    elim c.if-count_free-from.branch [
+      | then-count_free-from w ↦
+          let three : 3 ≤ free_count M a.p w.empty_share.new.records =
+          omega (
+            arith,
+            ap (λ (h : Shadow). free_count M a.p h.records) w.empty_share.ensures,
+            enough_free M c.requires.owner.sized.some c.requires.spare a.p c.requires.owner.own (shadow_of h.pool h.records),
+          ) in
+          rw (w.from-is, w.records-is) (top, three)
+      | else-count_free-from w ↦
+          let settled : SpotFits a.z c.settle-from.result =
+          subst⁻¹ (SpotFits a.z) (ap (λ (d : Settled). d.spot) c.settle-from.ensures)
+          (settled_spot a.z a.words.now a.page 3 c.root_of-root.result c.shadowed_by-cr3.result (shadow_of a.pool.now a.records.now) top.missing top.table top.frame) in
+          rw (w.from-is, w.records-is) (settled, omega (arith, w.if-count_free-from.false, c.count_free.ensures))
+    ]

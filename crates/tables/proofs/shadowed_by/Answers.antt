@@ -1,8 +1,0 @@
--- A record past the end says 0.
-use mathlib.Core.Path.{sym, ap}
-use lib.ListN.{get_or-eq_default}
-use Rattle.paging.specs.Frame.{guest}
-use Rattle.tables.proofs.shadowed_by.Goals as goal
-
-pub returns-else-at-records : goal.returns-else-at-records
-returns-else-at-records c = ap guest (sym (get_or-eq_default c.args.records.now 0 c.if-at-records.false))
