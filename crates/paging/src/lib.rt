@@ -14,7 +14,7 @@ ghost use Rattle.paging.specs.Request.{request_of, enough, is_write};
 use std::marker::Model;
 
 // Rights in one number: W + 2 U + 4 X.
-#[derive(Clone, Copy)]
+#[derive(Clone, Copy, Debug, PartialEq, Eq)]
 pub struct Rights(u64);
 
 impl Model for Rights {

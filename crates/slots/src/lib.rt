@@ -4,7 +4,7 @@
 ghost use Rattle.std.specs.Prelude.{◌≡◌, ◌^◌, ◌<◌, ◌≤◌, MatchOption};
 ghost use Rattle.slots.specs.Slots.{slot_count, HasSlots, slot_at, slot_of, with_slot, emptied, slot_serves, serving_slot, goes_with, flushed, flush, empty_slots};
 
-use paging::Request;
+use paging::{Request, Rights};
 
 // What a slot says: its mark (0 empty, 1 complete, level + 1 partial), its page, and the place and rights of its walk.
 // Kept: the mark is the buffer's number; an enum would only be read off it in the two matches that ask for it.
@@ -13,7 +13,7 @@ pub struct Slot {
     pub mark: u64,
     pub page: u64,
     pub place: u64,
-    pub rights: u64,
+    pub rights: Rights,
 }
 
 // "8 hardware TLB slots", of three numbers each: 24 numbers to a processor.
@@ -40,29 +40,29 @@ pub fn slot_of(slots: &[u64], p: u64, k: u64) -> Slot
         mark: slots[at],
         page: slots[at + 1],
         place: slots[at + 2] / 8,
-        rights: slots[at + 2] % 8,
+        rights: Rights::of(slots[at + 2]),
     }
 }
 
-pub fn set_slot(slots: &mut [u64], p: u64, k: u64, mark: u64, page: u64, place: u64, rights: u64)
-    requires { HasSlots p slots.old × (k < slot_count) × (place < 2 ^ 40) × (rights < 8) }
+pub fn set_slot(slots: &mut [u64], p: u64, k: u64, mark: u64, page: u64, place: u64, rights: Rights)
+    requires { HasSlots p slots.old × (k < slot_count) × (place < 2 ^ 40) }
     ensures { slots.new ≡ with_slot p k mark page place rights slots.old }
 {
     let at = slot_at(p, k);
     slots[at] = mark;
     slots[at + 1] = page;
-    slots[at + 2] = place * 8 + rights;
+    slots[at + 2] = place * 8 + rights.number();
 }
 
 pub fn empty_slot(slots: &mut [u64], p: u64, k: u64)
     requires { HasSlots p slots.old × (k < slot_count) }
     ensures { slots.new ≡ emptied p k slots.old }
 {
-    set_slot(slots, p, k, 0, 0, 0, 0);
+    set_slot(slots, p, k, 0, 0, 0, Rights::of(0));
 }
 
 fn slot_serves(slots: &[u64], p: u64, page: u64, q: Request, k: u64) -> bool
-    requires { HasSlots p slots.now × (k < slot_count) × (q.needs < 8) }
+    requires { HasSlots p slots.now × (k < slot_count) }
     ensures { result ≡ slot_serves slots.now p page q k }
 {
     let s = slot_of(slots, p, k);
@@ -71,7 +71,7 @@ fn slot_serves(slots: &[u64], p: u64, page: u64, q: Request, k: u64) -> bool
 
 // The lowest slot with a complete walk of the page and enough rights.
 pub fn serving_slot(slots: &[u64], p: u64, page: u64, q: Request) -> Option<u64>
-    requires { HasSlots p slots.now × (q.needs < 8) }
+    requires { HasSlots p slots.now }
     ensures { MatchOption result (slot_count ≤ serving_slot slots.now p page q) (λ k. (k < slot_count) × (k ≡ serving_slot slots.now p page q)) }
 {
     (0..SLOTS).find(|&k| slot_serves(slots, p, page, q, k))

@@ -18,11 +18,9 @@ pub collect-requires : goal.collect-requires
 collect-requires c =
     let a = c.args in
     let small = request_small a.q.request c.requires.request in
-    let rules = ap (λ (r : Request). r.needs) c.request_of.ensures in
     let adds = ap (λ (r : Request). r.adds) c.request_of.ensures in (
       record { few = c.requires.room.few; whole = c.replay.auto.words ∙ c.requires.room.whole; bytes = omega (arith, c.requires.room.bytes, c.replay.auto.work, c.restart.auto.work) },
       c.requires.some,
-      omega (arith, small.0),
       omega (arith, small.1),
       c.requires.pairs,
     )
