@@ -11,10 +11,9 @@ use lib.ListN.{length, get_or, drop}
 use borrow.Author.Tests.{eq-eqb, ne_eqb}
 use Rattle.std.specs.Prelude.{Result, Ok, Err}
 use Rattle.rules.specs.declared.Event.{Event}
-use Rattle.listing.specs.declared.Listed.{Listed}
-use Rattle.listing.specs.declared.Listed.TheVariants.{Count, Refused as Unlisted}
+use Rattle.rules.specs.declared.Refusal.{Refusal}
+use Rattle.rules.specs.Refusal as rules
 use Rattle.listing.specs.Call.{Asked, Lent, list_refusal, count_of, Lists}
-use Rattle.listing.specs.Call as listing
 use Rattle.listing.proofs.Theorems.{list_below_twelve}
 use Rattle.tables.specs.declared.Sizes.{Sizes}
 use Rattle.tables.specs.State.{Shadow, State, machine64}
@@ -33,21 +32,19 @@ use Rattle.trees.proofs.Entries.{laid64}
 use Rattle.keeps.proofs.Events.{taken}
 use Rattle.keeps.proofs.Theorems as keeps
 use Rattle.sections.specs.Sections.{Got, got, refused, Puzzle, puzzle_of}
-use Rattle.puzzle.specs.declared.ReadResult.TheVariants.{Refused as Unread}
-use Rattle.puzzle.specs.Buffers.{Buffers, After, answer, sized, read_call}
+use Rattle.puzzle.specs.Buffers.{Refused as Unread, Buffers, After, answer, sized, read_call}
 use Rattle.puzzle.proofs.Theorems.{ten_or_eleven}
-use Rattle.trainer.specs.declared.Written.{Written}
 use Rattle.render.specs.Render.{render_refusal}
-use Rattle.trainer.specs.Call.{puzzle_in, told_of, output_size, Lines, Prints, Printed}
+use Rattle.trainer.specs.Call.{Told, puzzle_in, told_of, output_size, Lines, Prints, Printed}
 use Rattle.flamecurl.specs.Exports.{list_numbers, event_numbers, read_numbers, written_numbers, ListExport, SetupExport, EventExport, ReadExport, PrintExport}
 use Rattle.demands.specs.Refuses.{Refuses, read_number, read_line}
 use Rattle.demands.proofs.Given.{given, refuses, setup_refused, setup_done, setup_number, event_refused, event_number}
 
 -- ---- the list call
 
-pub told_count : (r : Listed) → listing.refusal_of r ≡ 0 → list_numbers r ≡ 0 ∷ count_of r ∷ []
-told_count (Count n) e = refl
-told_count (Unlisted n) e = ap (λ (m : ℕ). m ∷ 0 ∷ []) e
+pub told_count : (r : Result ℕ Refusal) → rules.refusal_of r ≡ 0 → list_numbers r ≡ 0 ∷ count_of r ∷ []
+told_count (Ok n) e = refl
+told_count (Err n) e = ap (λ (m : ℕ). m ∷ 0 ∷ []) e
 
 module _ (q : Asked) (before after : Lent) {answer told : List ℕ} where
   pub list_refuses : {n : ℕ} → ListExport q before after answer n told → Refuses 2 (list_refusal q before) (0 ∷ []) before after answer n told
@@ -58,7 +55,7 @@ module _ (q : Asked) (before after : Lent) {answer told : List ℕ} where
   pub list_right : ListExport q before after answer 0 told → (count : ℕ) × (told ≡ 0 ∷ count ∷ []) × Lists q before after count
   list_right c =
       let a = given c refl in
-      let zero : listing.refusal_of a.result ≡ 0 = sym a.first in
+      let zero : rules.refusal_of a.result ≡ 0 = sym a.first in
       (count_of a.result, a.laid ∙ told_count a.result zero, a.call.listed (sym a.call.number ∙ zero))
 
 -- ---- setup
@@ -174,21 +171,21 @@ print_refuses Of text before last {answer} {told} {n} c = go (ℕ_discrete (leng
     go : Dec (length before ≡ output_size) → Refuses 4 (cond (eqb (length before) output_size) 0 1) (0 ∷ 0 ∷ 0 ∷ []) before last answer n told
     go (yes h) =
         let right : ◌≡◌ {A = ℕ} (cond (eqb (length before) output_size) 0 1) 0 = simp (eq-eqb (length before) output_size h) in
-        refuses c (omega (arith, right)) (λ r g. ap (λ (w : Written). get_or (written_numbers w) 0 0) (g.printed h).counted ∙ told_zero (puzzle_in text) _ ∙ sym right) (λ r g some. absurd (some right))
+        refuses c (omega (arith, right)) (λ r g. ap (λ (w : Told). get_or (written_numbers w) 0 0) (g.printed h).counted ∙ told_zero (puzzle_in text) _ ∙ sym right) (λ r g some. absurd (some right))
     go (no h) =
         let other : ◌≡◌ {A = ℕ} (cond (eqb (length before) output_size) 0 1) 1 = simp (ne_eqb (length before) output_size h) in
-        refuses c (omega (arith, other)) (λ r g. ap (λ (w : Written). get_or (written_numbers w) 0 0) (g.refused h).0 ∙ sym other)
+        refuses c (omega (arith, other)) (λ r g. ap (λ (w : Told). get_or (written_numbers w) 0 0) (g.refused h).0 ∙ sym other)
         (λ r g some. ((g.refused h).1, ap written_numbers (g.refused h).0 ∙ ap (λ (m : ℕ). m ∷ 0 ∷ 0 ∷ 0 ∷ []) (sym other)))
 
 -- a call that returned 0 printed
 pub printed : (Of : Lines) (text before last : List ℕ) {answer told : List ℕ} → PrintExport Of text before last answer 0 told
-    → (r : Written) × (told ≡ written_numbers r) × Printed Of text before r last
+    → (r : Told) × (told ≡ written_numbers r) × Printed Of text before r last
 printed Of text before last {told = told} c = go (ℕ_discrete (length before) output_size)
   where
-    go : Dec (length before ≡ output_size) → (r : Written) × (told ≡ written_numbers r) × Printed Of text before r last
+    go : Dec (length before ≡ output_size) → (r : Told) × (told ≡ written_numbers r) × Printed Of text before r last
     go (no h) =
         let a = given c refl in
-        let one = ap (λ (w : Written). get_or (written_numbers w) 0 0) (a.call.refused h).0 in
+        let one = ap (λ (w : Told). get_or (written_numbers w) 0 0) (a.call.refused h).0 in
         absurd (omega (arith, a.first, one))
     go (yes h) = let a = given c refl in (a.result, a.laid, a.call.printed h)
 

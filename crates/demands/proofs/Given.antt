@@ -12,7 +12,7 @@ use Rattle.tables.specs.State.{Machine, State}
 use Rattle.shadow.specs.declared.Answer.{Answer}
 use Rattle.shadow.specs.declared.Answer.TheVariants.{Done}
 use Rattle.shadow.specs.After.{after}
-use Rattle.shadow.specs.Answer.{Reply, gives, refuses, refusal_of}
+use Rattle.shadow.specs.Answer.{Reply, gives, refuses as refused_with, refusal_of}
 use Rattle.shadow.specs.Refusals.{call_refusal, setup_refusal}
 use Rattle.shadow.specs.Setup.{started, after_setup}
 use Rattle.keeps.proofs.Theorems.{never_refused}
@@ -62,7 +62,7 @@ module _ {A B : Type 0} {size : ℕ} {numbers : A → List ℕ} {Gave : A → Ty
 
 module _ (M : Machine) (map cr3s : List ℕ) (s : State) where
   -- its two ends
-  pub setup_refused : (setup_refusal M map cr3s s ≡ 0 → ⊥) → after_setup M map cr3s s ≡ refuses (setup_refusal M map cr3s s) s
+  pub setup_refused : (setup_refusal M map cr3s s ≡ 0 → ⊥) → after_setup M map cr3s s ≡ refused_with (setup_refusal M map cr3s s) s
   unfolding after_setup
   setup_refused some = simp (ne_eqb (setup_refusal M map cr3s s) 0 some)
 
@@ -80,7 +80,7 @@ module _ (M : Machine) (map cr3s : List ℕ) (s : State) where
 -- ---- the event call
 
 module _ (M : Machine) (map : List ℕ) (s : State) (e : Event) where
-  pub event_refused : (call_refusal M map s e ≡ 0 → ⊥) → after M map s e ≡ refuses (call_refusal M map s e) s
+  pub event_refused : (call_refusal M map s e ≡ 0 → ⊥) → after M map s e ≡ refused_with (call_refusal M map s e) s
   unfolding after
   event_refused some = simp (ne_eqb (call_refusal M map s e) 0 some)
 

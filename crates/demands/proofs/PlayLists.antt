@@ -19,7 +19,8 @@ use Rattle.rules.specs.Outcome.{RightAt, question_refusal}
 use Rattle.rules.proofs.Numbers.{numbers-length, events_back}
 use Rattle.rules.proofs.Theorems.{one_list}
 use Rattle.held.specs.Work.{work_bytes}
-use Rattle.listing.specs.Call.{Asked, asked, Lent, setup_asked, lengths_fit, first_refusal, list_refusal, pairs, refusal_of}
+use Rattle.rules.specs.Refusal.{refusal_of}
+use Rattle.listing.specs.Call.{Asked, asked, Lent, setup_asked, lengths_fit, first_refusal, list_refusal, pairs}
 use Rattle.listing.proofs.Accepts.{event-at}
 use Rattle.listing.proofs.Refuses.{or_second, list_later}
 use Rattle.tables.specs.declared.Sizes.{Sizes}

@@ -1,22 +1,20 @@
 -- Clearing: the bytes from k on are 0, all others stay. So forgetting and beginning anew marks the held walks again.
-use mathlib.Core.Path.{◌≡◌, refl, sym, ◌∙◌, ap}
+use mathlib.Core.Path.{◌≡◌, sym, ◌∙◌}
 use mathlib.Core.Logic.{◌⊎◌, inl}
 use mathlib.Core.Bool.{not}
 use mathlib.Core.List.{List}
-use Prim.Native.Nat.{ℕ, zero, suc, ◌+◌, ◌-◌, ◌≤◌, ◌<◌}
-use native.Mathlib.Decide.{ℕ_discrete, dec_lt}
+use Prim.Native.Nat.{ℕ, suc, ◌+◌, ◌-◌, ◌≤◌, ◌<◌}
+use native.Mathlib.Decide.{dec_lt}
 use native.Mathlib.Omega.{arith}
 use lib.Dec.{T}
 use borrow.Rule.Slice.PartMut.{put_mid}
 use Rattle.std.proofs.lemmas.List.{drop-drop}
-use lib.ListN.{take, drop, replicate, length-append, length-take, length-replicate, length-drop, length, get_or, set, length-set}
+use lib.ListN.{take, drop, replicate, length-append, length-take, length-replicate, length-drop, length, get_or}
 use Rattle.std.proofs.lemmas.Grind.{common_steps}
-use lib.Seq.{get_or-set_other}
 use Rattle.paging.specs.declared.Guest.{Guest}
 use Rattle.paging.specs.declared.Walk.{Walk}
 use Rattle.paging.specs.Layout.{Layout}
 use Rattle.paging.specs.Walk.{start}
-use Rattle.paging.proofs.Numbers.{set_zero}
 use Rattle.rules.specs.View.{View}
 use Rattle.rules.specs.Kept.{Kept, stay, ends}
 use Rattle.held.specs.Work.{cell, work_bytes, HasByte}

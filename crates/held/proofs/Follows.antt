@@ -1,9 +1,8 @@
 -- Following a chain, turn by turn: the laws that the code's loop cites.
 use Rattle.std.specs.Prelude.{Ok, Err}
 use mathlib.Core.Path.{◌≡◌, refl, ◌∙◌, ap}
-use mathlib.Core.Logic.{◌⊎◌, inl, inr}
-use mathlib.Core.List.{List, [], ◌∷◌}
-use Prim.Native.Nat.{ℕ, zero, suc, ◌+◌, ◌-◌, ◌*◌, ◌/◌, ◌%◌, ◌≤◌, ◌<◌}
+use mathlib.Core.List.{List}
+use Prim.Native.Nat.{ℕ, suc, ◌+◌, ◌-◌, ◌*◌, ◌/◌, ◌%◌}
 use native.Mathlib.Omega.{arith}
 use lib.ListN.{get_or, set}
 use borrow.Author.Tests.{eq-eqb, ne_eqb}
@@ -14,7 +13,7 @@ use Rattle.paging.specs.Layout.{Layout, frame_words, index, rights_of}
 use Rattle.paging.proofs.Steps.{Goes, goes}
 use Rattle.paging.proofs.Meets.{meet_small}
 use Rattle.held.specs.Work.{cell, HasByte}
-use Rattle.held.specs.FollowCode.{onward, cleared, step_in, follow, followed, reread, reread_all, reread_at, reread_word}
+use Rattle.held.specs.FollowCode.{onward, step_in, follow, followed, reread, reread_all, reread_at, reread_word}
 
 module _ (Y : Layout) (G page : ℕ) (words : List ℕ) where
   -- a walk that has a byte goes on to one that has a byte, one level down

@@ -14,6 +14,9 @@ use paging::Host;
 use slots::Slot;
 use tables::Sizes;
 
+// "a slot's page is below 2^36"
+const PAGES: u64 = 1 << 36;
+
 // What the rules are asked of: a state, with a hint at each frame's note. A call passes all of it as one pointer.
 #[derive(Clone, Copy)]
 struct Known<'a> {
@@ -247,7 +250,7 @@ impl<'a> Known<'a> {
         ensures { result ≡ slot_right (machine64 self.now.z) self.now.pool.now self.now.slots.now p k }
     {
         let s = slots::slot_of(self.slots, p, k);
-        s.page < 0x10_0000_0000
+        s.page < PAGES
             && match s.mark {
                 0 => s.page == 0 && s.place == 0 && s.rights == 0,
                 1 => s.place < self.z.frames,

@@ -12,10 +12,9 @@ use Rattle.std.specs.List.{enumerate_from, HoldsAt, AllWithin}
 use Rattle.std.proofs.lemmas.List.FromFn.{get_or-enumerate_from, length-enumerate_from}
 use Rattle.std.specs.Simd.{first_chunks}
 use Rattle.std.proofs.lemmas.List.{drop-drop, get_or-take, get_or-drop}
-use Rattle.rules.specs.declared.Event.{Event}
 use Rattle.rules.specs.Numbers.{event_of}
 use Rattle.paging.specs.Numbers.{some}
-use Rattle.paging.proofs.Numbers.{some_none, some_more, some_i}
+use Rattle.paging.proofs.Numbers.{some_i}
 
 none_of : (f : ℕ → Bool) (n : ℕ) → ((k : ℕ) → k < n → f k ≡ false) → some n f ≡ false
 unfolding some

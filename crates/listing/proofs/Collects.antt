@@ -32,7 +32,6 @@ use Rattle.held.specs.FollowCode.{is_set, walk_of, step_in}
 use Rattle.held.proofs.Cells.{cell_below, cell-own, complete_first}
 use Rattle.held.proofs.Closing.{ByteSet}
 use Rattle.held.proofs.Tracks.{Told, Tracks, kept_byte}
-use Rattle.listing.specs.Call.{pairs}
 use Rattle.listing.specs.CollectCode.{Out, out_of, pushed, walk_at, is_absent, is_beyond, serves_with, serves, lacks_at, lacks, stops_at, stops, addresses, collected}
 use Rattle.listing.proofs.Bytes.{byte_walk, byte_cell}
 use Rattle.listing.proofs.Pairs.{ifs, Wrote, wrote_none, wrote_push}

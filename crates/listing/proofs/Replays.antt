@@ -29,7 +29,7 @@ use Rattle.held.proofs.Tracks.{Told, Tracks, after_store, after_idle}
 use Rattle.held.proofs.Clears.{cleared_size, cleared_above, from_start, after-end, restart_grows}
 use Rattle.rules.specs.Numbers.{event_of}
 use Rattle.listing.specs.ReplayCode.{Replay, replay_of, Reach, forgets, applied, replayed}
-use Rattle.listing.proofs.Applies.{forgets-all, forgets_partial, applied-store, applied_other, applied-invlpg, applied-cr3, applied_none}
+use Rattle.listing.proofs.Applies.{forgets-all, forgets_partial, applied-store, applied_other, applied-invlpg, applied-cr3, applied_quiet}
 
 -- ---- which walks an event ends
 
@@ -258,7 +258,7 @@ module _ (G P : ℕ) (ws cs : List ℕ) (es : List Event) (p page : ℕ) where
               rw (applied-cr3 G p page e s no_store mine n₂ k)
               (anew_all e.a (ha.cr3 k) (words-kept no_store) (cr3-loaded mine k) (cr3-ends p page e mine k).0 (cr3-ends p page e mine k).1)
           ours no_store mine (no n₂) (no n₃) =
-              rw (applied_none G p page e s no_store mine n₂ n₃) (after_nothing (words-kept no_store) (cr3-kept n₃) (quiet_kind p page e n₂ n₃))
+              rw (applied_quiet G p page e s no_store n₂ n₃) (after_nothing (words-kept no_store) (cr3-kept n₃) (quiet_kind p page e n₂ n₃))
 
           by_proc : (e.kind ≡ 1 → ⊥) → Dec (e.proc ≡ p) → Follows work₀ (suc n) (applied G p page e s)
           by_proc no_store (yes mine) = ours no_store mine (ℕ_discrete e.kind 2) (ℕ_discrete e.kind 3)

@@ -1,12 +1,11 @@
 -- The faults of entries that held partial walks give, found in one pass: what is seen of the bytes so far.
-use mathlib.Core.Path.{◌≡◌, refl, sym, ap, ap₂, ◌∙◌}
+use mathlib.Core.Path.{◌≡◌, refl, ap, ap₂, ◌∙◌}
 use mathlib.Core.Bool.{Bool, true, false, ◌||◌}
 use mathlib.Core.List.{List}
 use Prim.Native.Nat.{ℕ, ◌+◌, ◌*◌}
 use native.Mathlib.Numerals.{add-one}
 use lib.ListN.{get_or}
 use borrow.Author.Tests.{eq-eqb, ne_eqb}
-use Rattle.paging.specs.Walk.{Step}
 use Rattle.paging.specs.Numbers.{some}
 use Rattle.held.specs.FollowCode.{step_in}
 use Rattle.listing.specs.declared.Faults.{Faults}

@@ -100,15 +100,15 @@ pub fn request_of(number: u64) -> Request
 }
 
 // Whether a request is a write: it needs W.
-pub fn is_write(q: Request) -> bool
-    ensures { result ≡ is_write q }
+pub fn is_write(q: &Request) -> bool
+    ensures { result ≡ is_write q.now }
 {
     let needs = q.needs;
     flag(needs.0, 0) == 1
 }
 
-pub fn has_enough(q: Request, rights: Rights) -> bool
-    ensures { result ≡ enough q rights }
+pub fn has_enough(q: &Request, rights: Rights) -> bool
+    ensures { result ≡ enough q.now rights }
 {
     let needs = q.needs;
     needs.0 & rights.0 == needs.0

@@ -9,6 +9,7 @@ ghost use Rattle.shadow.specs.ReadyCode.{Owner, Standing};
 
 use crate::Answer;
 use paging::{Guest, Host};
+use slots::Slot;
 use tables::Sizes;
 
 pub fn store(words: &mut [u64], a: u64, b: u64) -> Answer
@@ -67,7 +68,13 @@ pub fn begin(slots: &mut [u64], z: Sizes, p: u64, a: u64, k: u64) -> Answer
     requires slot { k < slot_count }
     ensures { (w : List ℕ) (h : Shadow) → gives result (state_of w h slots.new) ≡ after_begin (machine64 z) p a k (state_of w h slots.old) }
 {
-    slots::set_slot(slots, p, k, 5, paging::page_of(a), tables::root_of(z, p), 7);
+    let whole = Slot {
+        mark: 5,
+        page: paging::page_of(a),
+        place: tables::root_of(z, p),
+        rights: 7,
+    };
+    slots::set_slot(slots, p, k, whole);
     Answer::Done
 }
 
@@ -113,6 +120,12 @@ pub fn extend(map: &[u64], pool: &[u64], slots: &mut [u64], z: Sizes, p: u64, k:
         return Answer::NoStep;
     };
     let rights = paging::shared_rights(slot.rights, paging::rights_of(e));
-    slots::set_slot(slots, p, k, level, slot.page, place, rights);
+    let below = Slot {
+        mark: level,
+        place,
+        rights,
+        ..slot
+    };
+    slots::set_slot(slots, p, k, below);
     Answer::Done
 }

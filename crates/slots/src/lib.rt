@@ -7,7 +7,7 @@ ghost use Rattle.slots.specs.Slots.{slot_count, HasSlots, slot_at, slot_of, with
 use paging::{Request, Rights};
 
 // What a slot says: its mark (0 empty, 1 complete, level + 1 partial), its page, and the place and rights of its walk.
-// Kept: the mark is the buffer's number; an enum would only be read off it in the two matches that ask for it.
+// Kept: the mark is a number of the C interface's buffer, and specs/ asks for it as one; a match names its kinds.
 #[derive(Clone, Copy)]
 pub struct Slot {
     pub mark: u64,
@@ -44,35 +44,41 @@ pub fn slot_of(slots: &[u64], p: u64, k: u64) -> Slot
     }
 }
 
-pub fn set_slot(slots: &mut [u64], p: u64, k: u64, mark: u64, page: u64, place: u64, rights: Rights)
-    requires { HasSlots p slots.old × (k < slot_count) × (place < 2 ^ 40) }
-    ensures { slots.new ≡ with_slot p k mark page place rights slots.old }
+pub fn set_slot(slots: &mut [u64], p: u64, k: u64, s: Slot)
+    requires { HasSlots p slots.old × (k < slot_count) × (s.place < 2 ^ 40) }
+    ensures { slots.new ≡ with_slot p k s.mark s.page s.place s.rights slots.old }
 {
     let at = slot_at(p, k);
-    slots[at] = mark;
-    slots[at + 1] = page;
-    slots[at + 2] = place * 8 + rights.number();
+    slots[at] = s.mark;
+    slots[at + 1] = s.page;
+    slots[at + 2] = s.place * 8 + s.rights.number();
 }
 
 pub fn empty_slot(slots: &mut [u64], p: u64, k: u64)
     requires { HasSlots p slots.old × (k < slot_count) }
     ensures { slots.new ≡ emptied p k slots.old }
 {
-    set_slot(slots, p, k, 0, 0, 0, Rights::of(0));
+    let empty = Slot {
+        mark: 0,
+        page: 0,
+        place: 0,
+        rights: Rights::of(0),
+    };
+    set_slot(slots, p, k, empty);
 }
 
-fn slot_serves(slots: &[u64], p: u64, page: u64, q: Request, k: u64) -> bool
+fn slot_serves(slots: &[u64], p: u64, page: u64, q: &Request, k: u64) -> bool
     requires { HasSlots p slots.now × (k < slot_count) }
-    ensures { result ≡ slot_serves slots.now p page q k }
+    ensures { result ≡ slot_serves slots.now p page q.now k }
 {
     let s = slot_of(slots, p, k);
     s.mark == 1 && s.page == page && paging::has_enough(q, s.rights)
 }
 
 // The lowest slot with a complete walk of the page and enough rights.
-pub fn serving_slot(slots: &[u64], p: u64, page: u64, q: Request) -> Option<u64>
+pub fn serving_slot(slots: &[u64], p: u64, page: u64, q: &Request) -> Option<u64>
     requires { HasSlots p slots.now }
-    ensures { MatchOption result (slot_count ≤ serving_slot slots.now p page q) (λ k. (k < slot_count) × (k ≡ serving_slot slots.now p page q)) }
+    ensures { MatchOption result (slot_count ≤ serving_slot slots.now p page q.now) (λ k. (k < slot_count) × (k ≡ serving_slot slots.now p page q.now)) }
 {
     (0..SLOTS).find(|&k| slot_serves(slots, p, page, q, k))
 }

@@ -93,14 +93,17 @@ pub fn root_of(z: Sizes, p: u64) -> u64
     p * z.share
 }
 
-// The table that an entry names, if it names one.
+// The table that an entry names, if it names one; most are absent, which the first test tells.
 #[tactic(auto, unfolding(crate::specs::State::named))]
 pub fn named_by(z: Sizes, e: u64) -> Option<u64>
     requires { Sized z }
     ensures { result ≡ named_some (machine64 z) e }
 {
+    if !paging::present(e) {
+        return None;
+    }
     let t = paging::frame_of(e).checked_sub(z.base)?;
-    (paging::present(e) && t < table_count(z)).then_some(t)
+    (t < table_count(z)).then_some(t)
 }
 
 // ---- paths

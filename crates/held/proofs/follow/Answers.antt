@@ -1,10 +1,9 @@
-use mathlib.Core.Path.{◌≡◌, refl, sym, ◌∙◌, ap}
+use mathlib.Core.Path.{◌≡◌, sym, ◌∙◌, ap}
 use Prim.Native.Nat.{ℕ}
 use native.Mathlib.Omega.{arith}
 use lib.ListN.{get_or, set, length-set}
 use Rattle.held.specs.Work.{cell}
 use Rattle.held.specs.FollowCode.{followed}
-use Rattle.held.proofs.Cells.{cell_below}
 use Rattle.held.proofs.Follows.{below, follow_set, follow_new, follow-on, stops_unless_on}
 use Rattle.paging.specs.Layout.{tables64}
 use Rattle.held.proofs.follow.Goals as goal

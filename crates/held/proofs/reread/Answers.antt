@@ -1,10 +1,8 @@
 -- An unmarked walk and one that goes no further change nothing; any other is followed.
 use mathlib.Core.Path.{◌≡◌, sym, ◌∙◌, ap}
 use Prim.Native.Nat.{ℕ}
-use native.Mathlib.Omega.{arith}
 use lib.ListN.{get_or}
 use Rattle.held.specs.Work.{cell}
-use Rattle.held.proofs.Cells.{cell_below}
 use Rattle.held.proofs.Follows.{below, reread_unmarked, reread-set, stops_unless_on}
 use Rattle.paging.specs.Layout.{tables64}
 use Rattle.held.proofs.reread.Goals as goal

@@ -1,9 +1,6 @@
 use mathlib.Core.Path.{sym, ◌≡◌, ◌∙◌, ap}
-use Prim.Native.Nat.{ℕ}
-use mathlib.Core.List.{List}
 use native.Mathlib.Omega.{arith}
 use Rattle.paging.specs.Layout.{tables64}
-use Rattle.paging.specs.Numbers.{each}
 use Rattle.paging.proofs.Numbers.{each_none, each_more}
 use Rattle.held.specs.FollowCode.{walk_of, reread, reread_all}
 use Rattle.held.proofs.reread_all.Goals as goal

@@ -1,7 +1,5 @@
 -- The walks with rights below `rights` have been read again.
 use mathlib.Core.Path.{◌≡◌}
-use Prim.Native.Nat.{ℕ}
-use mathlib.Core.List.{List}
 use Rattle.paging.specs.Numbers.{each}
 use Rattle.held.specs.FollowCode.{walk_of, reread}
 use Rattle.paging.specs.Layout.{tables64}

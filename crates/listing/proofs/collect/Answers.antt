@@ -1,14 +1,14 @@
 use mathlib.Core.Path.{◌≡◌, refl, sym, ap, ◌∙◌}
-use mathlib.Core.Bool.{Bool, true, false}
+use mathlib.Core.Bool.{Bool}
 use mathlib.Core.List.{List}
-use Prim.Native.Nat.{ℕ, ◌+◌, ◌*◌, ◌<◌, ◌≤◌}
+use Prim.Native.Nat.{ℕ, ◌+◌, ◌≤◌}
 use Rattle.std.proofs.Common.{rules}
 use native.Mathlib.Omega.{arith}
 use lib.ListN.{length}
 use Rattle.rules.specs.declared.Outcome.TheVariants.{Fault}
 use Rattle.rules.specs.declared.Outcome.{Outcome}
 use Rattle.listing.specs.declared.Outcomes.{Outcomes}
-use Rattle.listing.specs.CollectCode.{Out, out_of, pushed, lacks, stops, is_absent, is_beyond, collected}
+use Rattle.listing.specs.CollectCode.{Out, out_of, pushed, collected}
 use Rattle.listing.proofs.Pairs.{pushed_count, pushed_size}
 use Rattle.listing.proofs.collect.Goals as goal
 use Rattle.listing.proofs.collect.Goals.{Joined-faults, then-faults, else-faults, Joined-lacks, then-lacks, else-lacks, Joined-faults-2, then-faults-2, else-faults-2}

@@ -1,8 +1,8 @@
-use Rattle.std.proofs.Common.{arith, ◌≡◌, ◌∙◌, ap, sym, get_or, ℕ, length, take, drop, ◌*◌, ◌+◌, ◌-◌}
+use Rattle.std.proofs.Common.{arith, ◌≡◌, ◌∙◌, ap, sym, get_or, ℕ, take, drop, ◌*◌, ◌+◌, ◌-◌}
 use Rattle.std.proofs.lemmas.List.{get_or-take, get_or-drop, length-take, length-drop}
 use Rattle.paging.specs.Layout.{tables64}
 use Rattle.held.specs.FollowCode.{step_in}
-use Rattle.listing.specs.CollectCode.{walk_at, with_step}
+use Rattle.listing.specs.CollectCode.{with_step}
 use Rattle.listing.proofs.Stopping.{found_none, found_more, found_same, found_all}
 use Rattle.listing.proofs.find_faults.Goals as goal
 use Rattle.listing.proofs.find_faults.Goals.{then-byte-eq1, else-byte-eq1}

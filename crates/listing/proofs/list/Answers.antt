@@ -1,5 +1,5 @@
 -- Accepted, the work's answer is the promised list.
-use mathlib.Core.Path.{◌≡◌, sym}
+use mathlib.Core.Path.{sym}
 use native.Mathlib.Omega.{arith}
 use Rattle.listing.specs.Call.{asked, lent}
 use Rattle.listing.proofs.Accepts.{Accepted, accepted, ready}

@@ -1,8 +1,7 @@
 use mathlib.Core.Path.{◌≡◌, sym, ap, ◌∙◌, subst}
-use mathlib.Core.List.{[]}
-use Prim.Native.Nat.{ℕ, ◌/◌, ◌<◌}
+use Prim.Native.Nat.{◌/◌, ◌<◌}
 use native.Mathlib.Omega.{arith}
-use lib.ListN.{length, get_or}
+use lib.ListN.{length}
 use Rattle.paging.proofs.Numbers.{each_none, each_more}
 use Rattle.rules.specs.declared.Event.{Event}
 use Rattle.rules.specs.Numbers.{event_of}

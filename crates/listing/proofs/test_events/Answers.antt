@@ -1,5 +1,5 @@
 use mathlib.Core.Path.{◌≡◌, sym, ap, ◌∙◌}
-use Prim.Native.Nat.{ℕ, ◌/◌, ◌<◌}
+use Prim.Native.Nat.{◌/◌, ◌<◌}
 use native.Mathlib.Omega.{arith}
 use lib.ListN.{length}
 use Rattle.std.proofs.Common.{rules, Err, Result}
@@ -8,7 +8,6 @@ use Rattle.rules.specs.Refusal.{number_of, refusal_of}
 use Rattle.rules.proofs.Refusals.{some_number}
 use Rattle.rules.specs.Numbers.{event_of}
 use Rattle.rules.specs.History.{setup64, event_refusal}
-use Rattle.listing.specs.Call.{first_refusal}
 use Rattle.listing.proofs.Chains.{chunk_event}
 use Rattle.listing.proofs.Refuses.{first_none, first_more, first-here}
 use Rattle.listing.proofs.test_events.Goals as goal

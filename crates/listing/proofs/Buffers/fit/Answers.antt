@@ -1,5 +1,5 @@
 -- Test by test, from the left; `sizes_fit` reads them from the right.
-use Rattle.std.proofs.Common.{arith, ◌≡◌, ◌∙◌, ap, sym, refl, ℕ, Bool, true, false, ◌&&◌, ◌+◌, ◌*◌, ◌/◌, ◌%◌, eqb, leb, length}
+use Rattle.std.proofs.Common.{◌≡◌, ◌∙◌, sym, refl, ℕ, Bool, true, false, ◌&&◌, ◌+◌, ◌*◌, ◌/◌, ◌%◌, eqb, leb, length}
 use mathlib.Core.Bool.{and_assoc}
 use Rattle.paging.specs.Numbers.{is_between}
 use Rattle.listing.specs.Call.{sizes_fit}
