@@ -1,3 +1,4 @@
+use Prim.Native.Nat.{ℕ}
 use mathlib.Core.Path.{sym, ◌≡◌, ◌∙◌, ap}
 use native.Mathlib.Omega.{arith}
 use Rattle.paging.specs.Layout.{tables64}

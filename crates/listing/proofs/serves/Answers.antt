@@ -1,8 +1,4 @@
-<<<<<<< HEAD
-use Rattle.std.proofs.Common.{rules, tests, arith, ◌≡◌, ◌∙◌, sym, ◌<◌, ap, take, drop, eqb, ℕ, ◌*◌, ◌+◌, ◌%◌, ◌&&◌, true, false, length, get_or}
-=======
-use Rattle.std.proofs.Common.{rules, tests, arith, ◌≡◌, ◌∙◌, sym, ◌<◌, ap, take, drop, eqb, ℕ, ◌*◌, ◌+◌, ◌&&◌, true, false, get_or}
->>>>>>> origin/design
+use Rattle.std.proofs.Common.{rules, tests, arith, ◌≡◌, ◌∙◌, sym, ◌<◌, ap, take, drop, eqb, ℕ, ◌*◌, ◌+◌, ◌%◌, ◌&&◌, true, false, get_or}
 use Rattle.std.proofs.lemmas.List.{get_or-take, get_or-drop, length-take, length-drop}
 use Rattle.std.proofs.lemmas.Iterator.{cases_from_any, YieldsList-from_slice}
 use Rattle.std.proofs.lemmas.Iterator.Consumers.{YieldsList-from_enumerate}
