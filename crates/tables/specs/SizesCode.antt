@@ -1,4 +1,4 @@
--- What the functions ask for: sizes that the event call has found in range, records of all tables, a fill that stands on one.
+-- What the functions ask for: sizes in range (the type Ranged carries this), records of all tables, a fill that stands on one.
 use Rattle.std.specs.Prelude.{◌≡◌, List, ℕ, ◌+◌, ◌*◌, ◌^◌, ◌≤◌, ◌<◌, length}
 use Rattle.tables.specs.declared.Sizes.{Sizes}
 use Rattle.tables.specs.declared.Spot.{Spot}
@@ -11,10 +11,9 @@ pub record Sized (z : Sizes) : Type 0 where
   pub share : z.share ≤ 16
   pub pool : z.base + z.processors * z.share ≤ 2 ^ 40
 
--- with the records of all tables
-pub record Room (z : Sizes) (records : List ℕ) : Type 0 where
-  pub sized : Sized z
-  pub pairs : length records ≡ record_size * table_count (machine64 z)
+-- the records of all tables
+abbrev pub Room : Sizes → List ℕ → Type 0
+Room z records = length records ≡ record_size * table_count (machine64 z)
 
 -- a fill stands on one of the tables
 pub record SpotFits (z : Sizes) (w : Spot) : Type 0 where

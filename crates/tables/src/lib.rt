@@ -5,9 +5,12 @@ ghost use Rattle.std.specs.Prelude.{◌≡◌, ℕ, ◌+◌, ◌-◌, ◌*◌, �
 ghost use Rattle.paging.specs.Layout.{tables64, frame_words};
 ghost use Rattle.tables.specs.State.{machine64, shadow_of, record_size, level_of, shadows, with_record, table_count, home_of, owner_of, root_of, named_some, down, path_to};
 ghost use Rattle.tables.specs.Steps.{free_table, cut, zeroed, empty_own, empty_share, may_take, free_count, taken, taken_some, hang, hang_next, leaf_of, agreeing, settle, settled_at, build};
-ghost use Rattle.tables.specs.SizesCode.{Sized, Room, SpotFits};
+ghost use Rattle.tables.specs.SizesCode.{Room, SpotFits};
+
+mod ranged;
 
 use paging::Guest;
+pub use ranged::Ranged;
 
 // "G frames", "P processors", "a share of S shadow tables", and the pool base.
 #[derive(Clone, Copy)]
@@ -62,77 +65,73 @@ pub fn set_record(records: &mut [u64], t: u64, level: u64, g: Guest)
     records[at + 1] = g.0;
 }
 
-pub fn table_count(z: Sizes) -> u64
-    requires { Sized z }
-    ensures { result ≡ table_count (machine64 z) }
+pub fn table_count(m: Ranged) -> u64
+    ensures { result ≡ table_count (machine64 m.sizes) }
 {
-    z.processors * z.share
+    m.sizes.processors * m.sizes.share
 }
 
 // The processor in whose share table t lies.
-pub fn home_of(z: Sizes, t: u64) -> u64
-    requires { Sized z }
-    ensures { result ≡ home_of (machine64 z) t }
+pub fn home_of(m: Ranged, t: u64) -> u64
+    ensures { result ≡ home_of (machine64 m.sizes) t }
 {
-    t / z.share
+    t / m.sizes.share
 }
 
 // The processor that owns table t: that of its share, whatever its record says.
 #[tactic(auto, unfolding(crate::specs::State::owner_of))]
-pub fn owner_of(records: &[u64], z: Sizes, t: u64) -> u64
-    requires { Sized z }
-    ensures { result ≡ owner_of (machine64 z) records.now t }
+pub fn owner_of(records: &[u64], m: Ranged, t: u64) -> u64
+    ensures { result ≡ owner_of (machine64 m.sizes) records.now t }
 {
-    home_of(z, t)
+    home_of(m, t)
 }
 
-pub fn root_of(z: Sizes, p: u64) -> u64
-    requires { Sized z × (p < z.processors) }
-    ensures { result ≡ root_of (machine64 z) p }
+pub fn root_of(m: Ranged, p: u64) -> u64
+    requires { p < m.sizes.processors }
+    ensures { result ≡ root_of (machine64 m.sizes) p }
 {
-    p * z.share
+    p * m.sizes.share
 }
 
 // The table that an entry names, if it names one; most are absent, which the first test tells.
 #[tactic(auto, unfolding(crate::specs::State::named))]
-pub fn named_by(z: Sizes, e: u64) -> Option<u64>
-    requires { Sized z }
-    ensures { result ≡ named_some (machine64 z) e }
+pub fn named_by(m: Ranged, e: u64) -> Option<u64>
+    ensures { result ≡ named_some (machine64 m.sizes) e }
 {
     if !paging::present(e) {
         return None;
     }
-    let t = paging::frame_of(e).checked_sub(z.base)?;
-    (t < table_count(z)).then_some(t)
+    let t = paging::frame_of(e).checked_sub(m.sizes.base)?;
+    (t < table_count(m)).then_some(t)
 }
 
 // ---- paths
 
 // Kept: a path off the tables stands on their number, as `down` of specs/State says.
-fn step_down(z: Sizes, w: Path, e: u64) -> Path
-    requires { Sized z × (1 ≤ w.level) × (w.rights < 8) }
-    ensures { result ≡ down (machine64 z) w e }
+fn step_down(m: Ranged, w: Path, e: u64) -> Path
+    requires { (1 ≤ w.level) × (w.rights < 8) }
+    ensures { result ≡ down (machine64 m.sizes) w e }
 {
     Path {
         level: w.level - 1,
-        table: named_by(z, e).unwrap_or(table_count(z)),
+        table: named_by(m, e).unwrap_or(table_count(m)),
         rights: paging::shared_rights(w.rights, paging::rights_of(e)),
     }
 }
 
 // The path of a page from p's root to a level.
-pub fn path_to(pool: &[u64], z: Sizes, p: u64, page: u64, level: u64) -> Path
-    requires { Sized z × (p < z.processors) × (level ≤ 4) }
-    ensures { result ≡ path_to (machine64 z) pool.now p page level }
+pub fn path_to(pool: &[u64], m: Ranged, p: u64, page: u64, level: u64) -> Path
+    requires { (p < m.sizes.processors) × (level ≤ 4) }
+    ensures { result ≡ path_to (machine64 m.sizes) pool.now p page level }
 {
     let mut w = Path {
         level: 4,
-        table: root_of(z, p),
+        table: root_of(m, p),
         rights: 7,
     };
     for l in (level + 1..=4).rev() {
         let e = paging::entry_at(pool, w.table, paging::index_of(page, l));
-        w = step_down(z, w, e);
+        w = step_down(m, w, e);
     }
     w
 }
@@ -143,29 +142,29 @@ pub fn path_to(pool: &[u64], z: Sizes, p: u64, page: u64, level: u64) -> Path
 
 // Frees table t of the given level, and every table below it.
 #[cycle(free_table_cut_entry)]
-fn free_table(pool: &mut [u64], records: &mut [u64], z: Sizes, t: u64, level: u64)
-    requires room { Room z records.old }
-    requires t_bound { t < table_count (machine64 z) }
-    ensures { shadow_of pool.new records.new ≡ free_table (machine64 z) level t (shadow_of pool.old records.old) }
+fn free_table(pool: &mut [u64], records: &mut [u64], m: Ranged, t: u64, level: u64)
+    requires room { Room m.sizes records.old }
+    requires t_bound { t < table_count (machine64 m.sizes) }
+    ensures { shadow_of pool.new records.new ≡ free_table (machine64 m.sizes) level t (shadow_of pool.old records.old) }
 {
     if level == 0 {
         return;
     }
     for i in 0..paging::FRAME_WORDS {
-        cut_entry(pool, records, z, level - 1, t, i);
+        cut_entry(pool, records, m, level - 1, t, i);
     }
     set_record(records, t, 0, Guest(0));
 }
 
 // Frees the table of the given level that entry i of t names, and clears the entry.
 #[cycle(free_table_cut_entry)]
-fn cut_entry(pool: &mut [u64], records: &mut [u64], z: Sizes, level: u64, t: u64, i: usize)
-    requires room { Room z records.old }
-    requires t_bound { (t < table_count (machine64 z)) × (i < frame_words) }
-    ensures { shadow_of pool.new records.new ≡ cut (machine64 z) level t i (shadow_of pool.old records.old) }
+fn cut_entry(pool: &mut [u64], records: &mut [u64], m: Ranged, level: u64, t: u64, i: usize)
+    requires room { Room m.sizes records.old }
+    requires t_bound { (t < table_count (machine64 m.sizes)) × (i < frame_words) }
+    ensures { shadow_of pool.new records.new ≡ cut (machine64 m.sizes) level t i (shadow_of pool.old records.old) }
 {
-    if let Some(u) = named_by(z, paging::entry_at(pool, t, i)) {
-        free_table(pool, records, z, u, level);
+    if let Some(u) = named_by(m, paging::entry_at(pool, t, i)) {
+        free_table(pool, records, m, u, level);
     }
     paging::write_entry(pool, t, i, 0);
 }
@@ -180,47 +179,46 @@ fn zero_table(pool: &mut [u64], t: u64)
 }
 
 // Table t, if it is one of p's: zeroed, and freed unless it is the root.
-fn empty_table(pool: &mut [u64], records: &mut [u64], z: Sizes, p: u64, t: u64)
-    requires room { Room z records.old }
-    requires p_lt_processors { (p < z.processors) × (t < table_count (machine64 z)) }
-    ensures { shadow_of pool.new records.new ≡ empty_own (machine64 z) p t (shadow_of pool.old records.old) }
+fn empty_table(pool: &mut [u64], records: &mut [u64], m: Ranged, p: u64, t: u64)
+    requires room { Room m.sizes records.old }
+    requires p_lt_processors { (p < m.sizes.processors) × (t < table_count (machine64 m.sizes)) }
+    ensures { shadow_of pool.new records.new ≡ empty_own (machine64 m.sizes) p t (shadow_of pool.old records.old) }
 {
-    if owner_of(records, z, t) != p {
+    if owner_of(records, m, t) != p {
         return;
     }
     zero_table(pool, t);
-    if t == root_of(z, p) {
+    if t == root_of(m, p) {
         return;
     }
     set_record(records, t, 0, Guest(0));
 }
 
-pub fn empty_share(pool: &mut [u64], records: &mut [u64], z: Sizes, p: u64)
-    requires room { Room z records.old }
-    requires p_lt_processors { p < z.processors }
-    ensures { shadow_of pool.new records.new ≡ empty_share (machine64 z) p (shadow_of pool.old records.old) }
+pub fn empty_share(pool: &mut [u64], records: &mut [u64], m: Ranged, p: u64)
+    requires room { Room m.sizes records.old }
+    requires p_lt_processors { p < m.sizes.processors }
+    ensures { shadow_of pool.new records.new ≡ empty_share (machine64 m.sizes) p (shadow_of pool.old records.old) }
 {
-    for t in 0..table_count(z) {
-        empty_table(pool, records, z, p, t);
+    for t in 0..table_count(m) {
+        empty_table(pool, records, m, p, t);
     }
 }
 
 // ---- taking
 
-fn may_take(records: &[u64], z: Sizes, p: u64, t: u64) -> bool
-    requires { Sized z × (t ≤ 64) }
-    ensures { result ≡ may_take (machine64 z) p records.now t }
+fn may_take(records: &[u64], m: Ranged, p: u64, t: u64) -> bool
+    requires { (t ≤ 64) }
+    ensures { result ≡ may_take (machine64 m.sizes) p records.now t }
 {
-    home_of(z, t) == p && level_of(records, t) == 0
+    home_of(m, t) == p && level_of(records, t) == 0
 }
 
-pub fn count_free(records: &[u64], z: Sizes, p: u64) -> u64
-    requires { Sized z }
-    ensures { result ≡ free_count (machine64 z) p records.now }
+pub fn count_free(records: &[u64], m: Ranged, p: u64) -> u64
+    ensures { result ≡ free_count (machine64 m.sizes) p records.now }
 {
     let mut free = 0;
-    for t in 0..table_count(z) {
-        if may_take(records, z, p, t) {
+    for t in 0..table_count(m) {
+        if may_take(records, m, p, t) {
             free += 1;
         }
     }
@@ -228,11 +226,10 @@ pub fn count_free(records: &[u64], z: Sizes, p: u64) -> u64
 }
 
 // The table that p takes next: the lowest that it may take, if there is one.
-fn next_free(records: &[u64], z: Sizes, p: u64) -> Option<u64>
-    requires { Sized z }
-    ensures { result ≡ taken_some (machine64 z) p records.now }
+fn next_free(records: &[u64], m: Ranged, p: u64) -> Option<u64>
+    ensures { result ≡ taken_some (machine64 m.sizes) p records.now }
 {
-    (0..table_count(z)).find(|t| may_take(records, z, p, *t))
+    (0..table_count(m)).find(|t| may_take(records, m, p, *t))
 }
 
 // ---- filling
@@ -249,11 +246,10 @@ fn leaf_of(map: &[u64], e: u64) -> u64
 }
 
 // The table that shadow entry h names, if it agrees with guest entry e in rights and in the frame that this table shadows.
-fn agreeing(records: &[u64], z: Sizes, h: u64, e: u64) -> Option<u64>
-    requires { Sized z }
-    ensures { result ≡ agreeing (machine64 z) records.now h e }
+fn agreeing(records: &[u64], m: Ranged, h: u64, e: u64) -> Option<u64>
+    ensures { result ≡ agreeing (machine64 m.sizes) records.now h e }
 {
-    let u = named_by(z, h)?;
+    let u = named_by(m, h)?;
     let same_frame = shadowed_by(records, u).0 == paging::frame_of(e);
     (same_frame && paging::rights_of(h) == paging::rights_of(e)).then_some(u)
 }
@@ -263,13 +259,13 @@ pub fn settle(
     words: &[u64],
     pool: &mut [u64],
     records: &mut [u64],
-    z: Sizes,
+    m: Ranged,
     page: u64,
     from: Spot,
 ) -> Spot
-    requires room { Room z records.old }
-    requires spot_fits { SpotFits z from }
-    ensures { settled_at result (shadow_of pool.new records.new) ≡ settle (machine64 z) words.now page from.missing from.table from.frame (shadow_of pool.old records.old) }
+    requires room { Room m.sizes records.old }
+    requires spot_fits { SpotFits m.sizes from }
+    ensures { settled_at result (shadow_of pool.new records.new) ≡ settle (machine64 m.sizes) words.now page from.missing from.table from.frame (shadow_of pool.old records.old) }
 {
     let mut table = from.table;
     let mut frame = from.frame;
@@ -277,8 +273,8 @@ pub fn settle(
         let i = paging::index_of(page, missing + 1);
         let h = paging::entry_at(pool, table, i);
         let e = guest::guest_entry(words, page, missing + 1, frame);
-        let Some(u) = agreeing(records, z, h, e) else {
-            cut_entry(pool, records, z, missing, table, i);
+        let Some(u) = agreeing(records, m, h, e) else {
+            cut_entry(pool, records, m, missing, table, i);
             return Spot {
                 missing,
                 table,
@@ -300,20 +296,20 @@ fn hang_next(
     words: &[u64],
     pool: &mut [u64],
     records: &mut [u64],
-    z: Sizes,
+    m: Ranged,
     p: u64,
     page: u64,
     w: Spot,
 ) -> Spot
-    requires room { Room z records.old }
-    requires spot_fits { SpotFits z w × (0 < w.missing) × (taken (machine64 z) p records.old < table_count (machine64 z)) }
-    ensures { settled_at result (shadow_of pool.new records.new) ≡ hang_next (machine64 z) words.now p page (w.missing - 1) w.table w.frame (shadow_of pool.old records.old) }
+    requires room { Room m.sizes records.old }
+    requires spot_fits { SpotFits m.sizes w × (0 < w.missing) × (taken (machine64 m.sizes) p records.old < table_count (machine64 m.sizes)) }
+    ensures { settled_at result (shadow_of pool.new records.new) ≡ hang_next (machine64 m.sizes) words.now p page (w.missing - 1) w.table w.frame (shadow_of pool.old records.old) }
 {
     let e = guest::guest_entry(words, page, w.missing + 1, w.frame);
-    let u = next_free(records, z, p).unwrap();
+    let u = next_free(records, m, p).unwrap();
     let below = Guest(paging::frame_of(e));
     let i = paging::index_of(page, w.missing + 1);
-    let entry = paging::composed(paging::rights_of(e), 0, z.base + u);
+    let entry = paging::composed(paging::rights_of(e), 0, m.sizes.base + u);
     set_record(records, u, w.missing, below);
     paging::write_entry(pool, w.table, i, entry);
     Spot {
@@ -329,19 +325,19 @@ pub fn build_path(
     words: &[u64],
     pool: &mut [u64],
     records: &mut [u64],
-    z: Sizes,
+    m: Ranged,
     p: u64,
     page: u64,
     from: Spot,
 )
-    requires room { Room z records.old }
-    requires spot_fits { SpotFits z from × (from.missing ≤ free_count (machine64 z) p records.old) }
+    requires room { Room m.sizes records.old }
+    requires spot_fits { SpotFits m.sizes from × (from.missing ≤ free_count (machine64 m.sizes) p records.old) }
     requires by_index { (i : ℕ) → get_or map.now i 0 < 2 ^ 40 }
-    ensures { shadow_of pool.new records.new ≡ build (machine64 z) map.now words.now p page from.missing from.table from.frame (shadow_of pool.old records.old) }
+    ensures { shadow_of pool.new records.new ≡ build (machine64 m.sizes) map.now words.now p page from.missing from.table from.frame (shadow_of pool.old records.old) }
 {
     let mut w = from;
     for _ in 0..from.missing {
-        w = hang_next(words, pool, records, z, p, page, w);
+        w = hang_next(words, pool, records, m, p, page, w);
     }
     let e = guest::guest_entry(words, page, 1, w.frame);
     paging::write_entry(pool, w.table, paging::index_of(page, 1), leaf_of(map, e));

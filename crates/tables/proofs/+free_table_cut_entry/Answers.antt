@@ -18,4 +18,4 @@ pub free_table-returns : goal.free_table-returns
 free_table-returns t c =
     let a = c.args in
     ap (shadow_of c.loop-i.pool) c.set_record.ensures
-    ∙ table-some a.z a.level a.t _ _ c.loop-i.i (omega arith) c.loop-i.invariant (omega arith)
+    ∙ table-some a.m.sizes a.level a.t _ _ c.loop-i.i (omega arith) c.loop-i.invariant (omega arith)

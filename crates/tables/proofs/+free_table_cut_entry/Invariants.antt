@@ -14,4 +14,4 @@ decreases-free_table l = 2 * l.level
 
 abbrev pub invariant-free_table-loop-i : goal.invariant-free_table-loop-i
 invariant-free_table-loop-i l =
-    shadow_of l.pool l.records ≡ each l.i (cut (machine64 l.z) (l.level - 1) l.t) (shadow_of l.initial.pool l.initial.records)
+    shadow_of l.pool l.records ≡ each l.i (cut (machine64 l.m.sizes) (l.level - 1) l.t) (shadow_of l.initial.pool l.initial.records)

@@ -15,13 +15,13 @@ use Rattle.tables.proofs.build_path.Goals as goal
 pub hang_next-w-requires-clause-spot_fits : goal.hang_next-w-requires-clause-spot_fits
 hang_next-w-requires-clause-spot_fits c =
     let l = c.loop in
-    (l.invariant.0, omega arith, (taken_may (machine64 c.args.z) c.args.p l.records (omega arith)).0)
+    (l.invariant.0, omega arith, (taken_may (machine64 c.args.m.sizes) c.args.p l.records (omega arith)).0)
 
 pub loop-preserved : goal.loop-preserved
 loop-preserved c =
     let a = c.args in
     let l = c.loop in
-    let M = machine64 a.z in
+    let M = machine64 a.m.sizes in
     let n = l.w.missing - 1 in
     let e = c.hang_next-w.ensures in
     let g = guest_entry tables64 a.words.now a.page (n + 2) l.w.frame in
@@ -42,7 +42,7 @@ pub returns : goal.returns
 returns c =
     let a = c.args in
     let l = c.loop in
-    build-end (machine64 a.z) a.words.now a.page l.w.missing l.w.table l.w.frame (shadow_of l.pool l.records) a.map.now a.p
+    build-end (machine64 a.m.sizes) a.words.now a.page l.w.missing l.w.table l.w.frame (shadow_of l.pool l.records) a.map.now a.p
     (omega arith) c.guest_entry-e.ensures c.leaf_of.ensures c.index_of.ensures
     (ap (λ (x : List ℕ). shadow_of x l.records) c.write_entry.ensures)
     ∙ l.invariant.3

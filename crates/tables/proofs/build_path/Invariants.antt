@@ -8,6 +8,6 @@ use Rattle.tables.proofs.build_path.Given as goal
 
 abbrev pub invariant-loop : goal.invariant-loop
 invariant-loop l =
-    SpotFits l.z l.w × (l.w.missing + l.counter ≡ l.end) × (l.w.missing ≤ free_count (machine64 l.z) l.p l.records)
-    × (build (machine64 l.z) l.map l.words l.p l.page l.w.missing l.w.table l.w.frame (shadow_of l.pool l.records)
-    ≡ build (machine64 l.z) l.map l.words l.p l.page l.initial.w.missing l.initial.w.table l.initial.w.frame (shadow_of l.initial.pool l.initial.records))
+    SpotFits l.m.sizes l.w × (l.w.missing + l.counter ≡ l.end) × (l.w.missing ≤ free_count (machine64 l.m.sizes) l.p l.records)
+    × (build (machine64 l.m.sizes) l.map l.words l.p l.page l.w.missing l.w.table l.w.frame (shadow_of l.pool l.records)
+    ≡ build (machine64 l.m.sizes) l.map l.words l.p l.page l.initial.w.missing l.initial.w.table l.initial.w.frame (shadow_of l.initial.pool l.initial.records))

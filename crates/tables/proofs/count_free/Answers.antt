@@ -15,7 +15,7 @@ loop-t-init c = sum_none _
 pub overflow_add-free : goal.overflow_add-free
 overflow_add-free c =
     let a = c.args in
-    omega (arith, few c.requires, count_small c.loop-t.t (may_take (machine64 a.z) a.p a.records.now))
+    omega (arith, few c.args.m.sized, count_small c.loop-t.t (may_take (machine64 a.m.sizes) a.p a.records.now))
 
 pub loop-t-preserved : goal.loop-t-preserved
 loop-t-preserved c =
@@ -29,4 +29,4 @@ unfolding free_count
 returns c =
     let a = c.args in
     c.loop-t.invariant
-    ∙ ap (λ (n : ℕ). count n (may_take (machine64 a.z) a.p a.records.now)) (omega arith)
+    ∙ ap (λ (n : ℕ). count n (may_take (machine64 a.m.sizes) a.p a.records.now)) (omega arith)

@@ -6,4 +6,4 @@ use Rattle.tables.specs.Steps.{may_take}
 use Rattle.tables.proofs.count_free.Given as goal
 
 abbrev pub invariant-loop-t : goal.invariant-loop-t
-invariant-loop-t l = l.free ≡ count l.t (may_take (machine64 l.z) l.p l.records)
+invariant-loop-t l = l.free ≡ count l.t (may_take (machine64 l.m.sizes) l.p l.records)

@@ -19,4 +19,4 @@ unfolding empty_share
 returns c =
     let a = c.args in
     c.loop-t.invariant
-    ∙ ap (λ (n : ℕ). each n (empty_own (machine64 a.z) a.p) (shadow_of a.pool.now a.records.now)) (omega arith)
+    ∙ ap (λ (n : ℕ). each n (empty_own (machine64 a.m.sizes) a.p) (shadow_of a.pool.now a.records.now)) (omega arith)

@@ -7,4 +7,4 @@ use Rattle.tables.proofs.empty_share.Given as goal
 
 abbrev pub invariant-loop-t : goal.invariant-loop-t
 invariant-loop-t l =
-    shadow_of l.pool l.records ≡ each l.t (empty_own (machine64 l.z) l.p) (shadow_of l.initial.pool l.initial.records)
+    shadow_of l.pool l.records ≡ each l.t (empty_own (machine64 l.m.sizes) l.p) (shadow_of l.initial.pool l.initial.records)

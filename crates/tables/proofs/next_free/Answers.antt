@@ -15,7 +15,7 @@ use Rattle.tables.proofs.next_free.Goals as goal
 pub returns : goal.returns
 unfolding taken
 returns c =
-    let f = may_take (machine64 c.args.z) c.args.p c.args.records.now in
+    let f = may_take (machine64 c.args.m.sizes) c.args.p c.args.records.now in
     first_by f _ c.find.result
     (first_from_Range _ _ _ _ (λ k. f k ≡ true) (λ k. f k ≡ false) c.find.ensures.ran (λ x q k. search (rules, tests)) (λ x q k. search (rules, tests)))
     ∙ ap (λ (n : ℕ). cond (ltb (first n f) n) (Some (first n f)) None) c.table_count.ensures

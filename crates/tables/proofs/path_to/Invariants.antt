@@ -7,4 +7,4 @@ use Rattle.tables.proofs.path_to.Given as goal
 abbrev pub invariant-loop-l : goal.invariant-loop-l
 invariant-loop-l l =
     (l.w.level ≡ l.l) × (l.w.rights < 8) × (l.w.table ≤ 64)
-    × (descend (machine64 l.z) l.pool l.page (l.w.level - l.level) l.w ≡ path_to (machine64 l.z) l.pool l.p l.page l.level)
+    × (descend (machine64 l.m.sizes) l.pool l.page (l.w.level - l.level) l.w ≡ path_to (machine64 l.m.sizes) l.pool l.p l.page l.level)

@@ -12,7 +12,7 @@ pub returns-in_default : goal.returns-in_default
 returns-in_default c =
     let a = c.args in
     let l = c.loop-missing in
-    settle-cut (machine64 a.z) a.words.now a.page l.missing l.table l.frame (shadow_of l.pool l.records) (omega arith)
+    settle-cut (machine64 a.m.sizes) a.words.now a.page l.missing l.table l.frame (shadow_of l.pool l.records) (omega arith)
     (c.entry_at-h.ensures ∙ ap (get tables64 l.pool l.table) c.index_of-i.ensures) c.guest_entry-e.ensures c.in_default.ensures
     c.index_of-i.ensures c.cut_entry.ensures
     ∙ l.invariant.1
@@ -23,10 +23,10 @@ loop-missing-preserved c =
     let l = c.loop-missing in (
       record {
         missing = omega arith;
-        table = agreeing-named (machine64 a.z) l.records c.entry_at-h.result c.guest_entry-e.result c.in-Some.u c.in-Some.ensures;
+        table = agreeing-named (machine64 a.m.sizes) l.records c.entry_at-h.result c.guest_entry-e.result c.in-Some.u c.in-Some.ensures;
         frame = grind (arith, bounds);
       },
-      settle-on (machine64 a.z) a.words.now a.page l.missing l.table l.frame (shadow_of l.pool l.records) (omega arith)
+      settle-on (machine64 a.m.sizes) a.words.now a.page l.missing l.table l.frame (shadow_of l.pool l.records) (omega arith)
           (c.entry_at-h.ensures ∙ ap (get tables64 l.pool l.table) c.index_of-i.ensures) c.guest_entry-e.ensures c.in-Some.ensures
           c.frame_of.ensures
           ∙ l.invariant.1,
@@ -38,5 +38,5 @@ returns c =
     let l = c.loop-missing in
     let done : 0 ≡ l.missing = omega arith in
     ap (λ (m : ℕ). settled_at (spot m l.table l.frame) (shadow_of l.pool l.records)) done
-    ∙ settle-end (machine64 a.z) a.words.now a.page l.missing l.table l.frame (shadow_of l.pool l.records) (omega arith)
+    ∙ settle-end (machine64 a.m.sizes) a.words.now a.page l.missing l.table l.frame (shadow_of l.pool l.records) (omega arith)
     ∙ l.invariant.1

@@ -14,5 +14,5 @@ decreases-table_whole l = l.level + l.level + 1
 
 abbrev pub invariant-table_whole-loop-i : goal.invariant-table_whole-loop-i
 invariant-table_whole-loop-i l =
-    let z = l.self.z in
+    let z = l.self.m.sizes in
     all l.i (λ k. entry_whole (machine64 z) l.self.map.now l.self.pool.now l.level (entry_of (machine64 z) l.self.pool.now l.t k)) ≡ true

@@ -8,4 +8,4 @@ pub returns : goal.returns
 returns c =
     let s = c.args.self.now in
     let t = c.args.t in
-    all_over (λ i. entry_right (machine64 s.z) s.map.now s.records.now t (entry_of (machine64 s.z) s.pool.now t i)) 512 refl c.all.ensures.ran (λ b x q k. search rules)
+    all_over (λ i. entry_right (machine64 s.m.sizes) s.map.now s.records.now t (entry_of (machine64 s.m.sizes) s.pool.now t i)) 512 refl c.all.ensures.ran (λ b x q k. search rules)

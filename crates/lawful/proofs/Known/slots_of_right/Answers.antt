@@ -7,4 +7,4 @@ use Rattle.lawful.proofs.Known.slots_of_right.Goals as goal
 pub returns : goal.returns
 returns c =
     let s = c.args.self.now in
-    all_over (slot_right (machine64 s.z) s.pool.now s.slots.now c.args.p) 8 refl c.all.ensures.ran (λ b x q k. search rules)
+    all_over (slot_right (machine64 s.m.sizes) s.pool.now s.slots.now c.args.p) 8 refl c.all.ensures.ran (λ b x q k. search rules)

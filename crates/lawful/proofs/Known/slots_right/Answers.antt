@@ -8,4 +8,4 @@ use Rattle.lawful.proofs.Known.slots_right.Goals as goal
 pub returns : goal.returns
 returns c =
     let s = c.args.self.now in
-    all_over (λ p. all 8 (slot_right (machine64 s.z) s.pool.now s.slots.now p)) s.z.processors refl c.all.ensures.ran (λ b x q k. search rules)
+    all_over (λ p. all 8 (slot_right (machine64 s.m.sizes) s.pool.now s.slots.now p)) s.m.sizes.processors refl c.all.ensures.ran (λ b x q k. search rules)

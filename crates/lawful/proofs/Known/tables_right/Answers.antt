@@ -7,4 +7,4 @@ use Rattle.lawful.proofs.Known.tables_right.Goals as goal
 pub returns : goal.returns
 returns c =
     let s = c.args.self.now in
-    all_over (table_right (machine64 s.z) s.map.now (shadow_of s.pool.now s.records.now)) (table_count (machine64 s.z)) (search rules) c.all.ensures.ran (λ b x q k. search rules)
+    all_over (table_right (machine64 s.m.sizes) s.map.now (shadow_of s.pool.now s.records.now)) (table_count (machine64 s.m.sizes)) (search rules) c.all.ensures.ran (λ b x q k. search rules)
