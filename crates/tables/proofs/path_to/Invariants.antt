@@ -6,5 +6,5 @@ use Rattle.tables.proofs.path_to.Given as goal
 
 abbrev pub invariant-loop-l : goal.invariant-loop-l
 invariant-loop-l l =
-    (l.w.level ≡ l.l) × (l.w.rights < 8) × (l.w.table ≤ 64)
+    (l.w.level ≡ l.l) × (l.w.table ≤ 64)
     × (descend (machine64 l.m.sizes) l.pool l.page (l.w.level - l.level) l.w ≡ path_to (machine64 l.m.sizes) l.pool l.p l.page l.level)
