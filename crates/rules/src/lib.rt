@@ -8,7 +8,8 @@ ghost use Rattle.rules.specs.Numbers.{event_of, Decodes};
 
 use paging::Guest;
 
-// "Four numbers each: processor p, kind, a, b"
+// "Four numbers each: processor p, kind, a, b". Kept: all numbers, as C and texts give them, so that whatever they are can be refused;
+// `Kind` is what a kind's number asks for.
 #[derive(Clone, Copy)]
 pub struct Event {
     pub proc: u64,
@@ -24,7 +25,8 @@ pub struct Question {
     pub request: u64,
 }
 
-// An address in a guest frame, or a fault with its code.
+// An address in a guest frame, or a fault with its code. Kept: no Result, since a fault is what a question may permit, and the list
+// holds both in one order.
 #[derive(Clone, Copy)]
 pub enum Outcome {
     Address(Guest),

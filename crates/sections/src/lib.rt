@@ -214,6 +214,7 @@ fn read_numbers(
     ensures { PartIs (numbers (in_range which limits.frames limits.processors) text.now (count * width which) [] from.at) (width which) text.now buffer.old buffer.new result }
 {
     let mut c = from;
+    // Kept: the index, since a number's range hangs on those before it in the buffer that it is put into.
     for i in 0..count as usize * which.width() {
         let number = cursor::next_from(text, c)?;
         if !which.in_range(limits, &buffer[..i], number.value) {

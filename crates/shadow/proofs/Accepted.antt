@@ -7,7 +7,8 @@ use native.Mathlib.Decide.{dec_lt}
 use native.Mathlib.Omega.{arith}
 use lib.Dec.{eqb, ltb, leb}
 use lib.ListN.{length, get_or}
-use borrow.Author.Tests.{eq-eqb, lt-ltb, le-ltb, eqb-true, ltb-true, ltb-false, leb-true, leb-false, not-false}
+use Rattle.std.proofs.lemmas.Bool.{false_from_ne_true}
+use borrow.Author.Tests.{eq-eqb, lt-ltb, le-ltb, le-leb, eqb-true, ltb-true, ltb-false, leb-true, leb-false, not-false}
 use Rattle.paging.specs.Layout.{frame_words}
 use Rattle.paging.specs.Frame.{map_fits}
 use Rattle.paging.specs.Numbers.{all}
@@ -264,6 +265,15 @@ frames_sized z map ranges frames =
     let g = both (pool_fits (machine64 z) && map_fits (2 ^ 40) map) (all (length map) (λ i. not (in_pool (machine64 z) (get_or map i 0)))) frames in
     sized z ranges (both (pool_fits (machine64 z)) (map_fits (2 ^ 40) map) g.0).0
 
+-- sizes out of range do not fit
+pub fits_unsized : (z : Sizes) (map : List ℕ) → ranges_fit (machine64 z) ≡ true → (Sized z → ⊥) → frames_fit (machine64 z) map ≡ false
+fits_unsized z map ranges out = false_from_ne_true (frames_fit (machine64 z) map) (λ fits. out (frames_sized z map ranges fits))
+
+-- a pool of sizes in range does
+pub pool_sized : (z : Sizes) → Sized z → pool_fits (machine64 z) ≡ true
+unfolding pool_fits
+pool_sized z ok = le-leb (z.base + table_count (machine64 z)) (2 ^ 40) ok.pool
+
 module _ (z : Sizes) (map : List ℕ) (s : State) (e : Event) (ok : call_refusal (machine64 z) map s e ≡ 0) where
   accepted_sized : Sized z
   accepted_sized =
@@ -283,7 +293,7 @@ module _ (z : Sizes) (map : List ℕ) (s : State) (e : Event) (ok : call_refusal
       let r = accepted_ranged (machine64 z) map s e ok in
       let root = root_small accepted_sized e.proc own in
       record {
-        owner = record { sized = accepted_sized; own = own; triples = omega (arith, x.triples) };
+        owner = record { own = own; triples = omega (arith, x.triples) };
         spare = r.share.0;
         guests = omega (arith, x.guests, r.frames);
         hosts = hosts_below (2 ^ 40) (omega arith) map (accepted_map (machine64 z) map s e ok);

@@ -1,4 +1,4 @@
--- An access, by who answers: the lowest slot, the shadow path, or neither. And the numbers of a request are small.
+-- An access that no slot answers: the shadow path does, or a miss. And the numbers of a request are small.
 use mathlib.Core.Path.{◌≡◌, refl, ap, ap₂, ◌∙◌}
 use mathlib.Core.Bool.{Bool, true, false, cond, ◌&&◌}
 use mathlib.Core.List.{List}

@@ -1,4 +1,4 @@
--- The number of a setup, test by test; and what is known of one that is accepted.
+-- A setup that no test refuses: what it is known to be, and the state that it leaves.
 use mathlib.Core.Path.{◌≡◌, sym, ap, ◌∙◌}
 use mathlib.Core.Bool.{Bool, true, not, ◌&&◌}
 use mathlib.Core.List.{List, [], ◌∷◌}

@@ -1,5 +1,4 @@
--- How a walk of the guest's tables ends: its last table and its rights are in range, and so is a fault's code. And what
--- a miss does once the walk has ended.
+-- How a walk of the guest's tables ends: its last table and its rights are in range, and so is a fault's code.
 use Rattle.std.specs.Prelude.{Ok, Err}
 use mathlib.Core.Path.{◌≡◌, refl, ap}
 use mathlib.Core.List.{List}

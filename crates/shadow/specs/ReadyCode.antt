@@ -4,11 +4,9 @@ use Rattle.rules.specs.declared.Event.{Event}
 use Rattle.tables.specs.declared.Sizes.{Sizes}
 use Rattle.tables.specs.State.{machine64, record_size, table_count, root_of, shadows}
 use Rattle.slots.specs.Slots.{slot_count, slots_size, mark_of, place_in}
-use Rattle.tables.specs.SizesCode.{Sized}
 
 -- p is one of the processors, and its slots are there
 pub record Owner (z : Sizes) (slots : List ℕ) (p : ℕ) : Type 0 where
-  pub sized : Sized z
   pub own : p < z.processors
   pub triples : slots_size * p + slots_size ≤ length slots
 

@@ -10,7 +10,7 @@ ghost use Rattle.shadow.specs.ReadyCode.{Ready};
 
 use crate::{Answer, fill};
 use paging::{Guest, Host, Request};
-use tables::{Path, Sizes};
+use tables::{Path, Ranged};
 
 // Neither slot nor shadow answers: the guest's tables are walked.
 #[tactic(auto, unfolding(crate::specs::Access::after_miss))]
@@ -20,24 +20,24 @@ fn miss(
     pool: &mut [u64],
     records: &mut [u64],
     slots: &mut [u64],
-    z: Sizes,
+    m: Ranged,
     p: u64,
     page: u64,
     q: Request,
 ) -> Answer
-    requires ready { Ready z map.now records.old slots.old p }
+    requires ready { Ready m.sizes map.now records.old slots.old p }
     requires needs_bound { (q.needs < 8) × (q.adds ≤ 20) }
-    ensures { gives result (state_of words.new (shadow_of pool.new records.new) slots.new) ≡ after_miss (machine64 z) map.now p page q (state_of words.old (shadow_of pool.old records.old) slots.old) }
+    ensures { gives result (state_of words.new (shadow_of pool.new records.new) slots.new) ≡ after_miss (machine64 m.sizes) map.now p page q (state_of words.old (shadow_of pool.old records.old) slots.old) }
 {
-    let cr3 = tables::shadowed_by(records, tables::root_of(z, p));
-    match guest::walk_guest(words, z.frames, cr3, page) {
+    let cr3 = tables::shadowed_by(records, tables::root_of(m, p));
+    match guest::walk_guest(words, m.sizes.frames, cr3, page) {
         Err(stop) => Answer::Fault(stop.base_code() + q.adds),
         Ok(walked) => {
             if !paging::has_enough(q, walked.walk.rights) {
                 return Answer::Fault(1 + q.adds);
             }
             guest::set_d(words, q, page, walked.last);
-            fill::fill(map, words, pool, records, slots, z, p, page);
+            fill::fill(map, words, pool, records, slots, m, p, page);
             Answer::Again
         }
     }
@@ -58,14 +58,14 @@ pub fn access(
     pool: &mut [u64],
     records: &mut [u64],
     slots: &mut [u64],
-    z: Sizes,
+    m: Ranged,
     p: u64,
     a: u64,
     request: u64,
 ) -> Answer
-    requires ready { Ready z map.now records.old slots.old p }
+    requires ready { Ready m.sizes map.now records.old slots.old p }
     requires request_bound { request < 6 }
-    ensures { gives result (state_of words.new (shadow_of pool.new records.new) slots.new) ≡ after_access (machine64 z) map.now p a request (state_of words.old (shadow_of pool.old records.old) slots.old) }
+    ensures { gives result (state_of words.new (shadow_of pool.new records.new) slots.new) ≡ after_access (machine64 m.sizes) map.now p a request (state_of words.old (shadow_of pool.old records.old) slots.old) }
 {
     let page = paging::page_of(a);
     let q = paging::request_of(request);
@@ -73,10 +73,10 @@ pub fn access(
         let place = Guest(slots::slot_of(slots, p, k).place);
         return Answer::Address(paging::host_address(paging::host_of(map, place), a));
     }
-    let w = tables::path_to(pool, z, p, page, 1);
+    let w = tables::path_to(pool, m, p, page, 1);
     let e = paging::entry_at(pool, w.table, paging::index_of(page, 1));
     if path_serves(w, e, q) {
         return Answer::Address(paging::host_address(Host(paging::frame_of(e)), a));
     }
-    miss(map, words, pool, records, slots, z, p, page, q)
+    miss(map, words, pool, records, slots, m, p, page, q)
 }

@@ -19,7 +19,7 @@ ghost use Rattle.tables.specs.SizesCode.{Room};
 
 use paging::Guest;
 use rules::{Event, Kind, Refusal};
-use tables::Sizes;
+use tables::{Ranged, Sizes};
 
 // "Answer: refusal, kind (0 done, 1 address, 2 guest fault, 3 again, 4 no step), value"; `refusal_of`, `kind_of` and
 // `value_of` of specs/Answer give these numbers.
@@ -72,23 +72,23 @@ fn take_step(
     pool: &mut [u64],
     records: &mut [u64],
     slots: &mut [u64],
-    z: Sizes,
+    m: Ranged,
     kind: Kind,
     e: Event,
 ) -> Answer
-    requires ready { Ready z map.now records.old slots.old e.proc }
+    requires ready { Ready m.sizes map.now records.old slots.old e.proc }
     requires kind { kind_number kind ≡ e.kind }
     requires fitting { Fitting words.old slots.old e }
-    ensures { gives result (state_of words.new (shadow_of pool.new records.new) slots.new) ≡ moved (machine64 z) map.now e.proc (decode e) (state_of words.old (shadow_of pool.old records.old) slots.old) }
+    ensures { gives result (state_of words.new (shadow_of pool.new records.new) slots.new) ≡ moved (machine64 m.sizes) map.now e.proc (decode e) (state_of words.old (shadow_of pool.old records.old) slots.old) }
 {
     let p = e.proc;
     match kind {
         Kind::Store => events::store(words, e.a, e.b),
-        Kind::Invlpg => events::invlpg(pool, slots, z, p, e.a),
-        Kind::Cr3Write => events::write_cr3(pool, records, slots, z, p, e.a),
-        Kind::Access => access::access(map, words, pool, records, slots, z, p, e.a, e.b),
-        Kind::Begin => events::begin(slots, z, p, e.a, e.b),
-        Kind::Extend => events::extend(map, pool, slots, z, p, e.a),
+        Kind::Invlpg => events::invlpg(pool, slots, m, p, e.a),
+        Kind::Cr3Write => events::write_cr3(pool, records, slots, m, p, e.a),
+        Kind::Access => access::access(map, words, pool, records, slots, m, p, e.a, e.b),
+        Kind::Begin => events::begin(slots, m, p, e.a, e.b),
+        Kind::Extend => events::extend(map, pool, slots, m, p, e.a),
         Kind::Drop => events::drop_slot(slots, p, e.a),
     }
 }
@@ -106,22 +106,22 @@ pub fn event(
 ) -> Result<Answer, Refusal>
     ensures { replies (by_number result) (state_of words.new (shadow_of pool.new records.new) slots.new) ≡ after (machine64 z) map.now (state_of words.old (shadow_of pool.old records.old) slots.old) e }
 {
-    refusals::test_call(map, words, pool, records, slots, z, e)?;
+    let m = refusals::test_call(map, words, pool, records, slots, z, e)?;
     let kind = Kind::try_from(e.kind)?;
-    Ok(take_step(map, words, pool, records, slots, z, kind, e))
+    Ok(take_step(map, words, pool, records, slots, m, kind, e))
 }
 
 // ---- setup
 
 // Each root gets its level and its CR3.
 #[tactic(auto, using(paging::proofs::Numbers::each_none, paging::proofs::Numbers::each_more), unfolding(crate::specs::Setup::rooted))]
-fn set_roots(cr3s: &[u64], records: &mut [u64], z: Sizes)
-    requires room { Room z records.old }
-    requires cr3s_len { length cr3s.now ≡ z.processors }
-    ensures { records.new ≡ rooted (machine64 z) cr3s.now records.old }
+fn set_roots(cr3s: &[u64], records: &mut [u64], m: Ranged)
+    requires room { Room m.sizes records.old }
+    requires cr3s_len { length cr3s.now ≡ m.sizes.processors }
+    ensures { records.new ≡ rooted (machine64 m.sizes) cr3s.now records.old }
 {
     for (p, cr3) in cr3s.iter().enumerate() {
-        tables::set_record(records, tables::root_of(z, p as u64), 4, Guest(*cr3));
+        tables::set_record(records, tables::root_of(m, p as u64), 4, Guest(*cr3));
     }
 }
 
@@ -137,10 +137,10 @@ pub fn setup(
 ) -> Result<Answer, Refusal>
     ensures { replies (by_number result) (state_of [] (shadow_of pool.new records.new) slots.new) ≡ after_setup (machine64 z) map.now cr3s.now (state_of [] (shadow_of pool.old records.old) slots.old) }
 {
-    refusals::test_setup(map, cr3s, pool, records, slots, z)?;
+    let m = refusals::test_setup(map, cr3s, pool, records, slots, z)?;
     pool.fill(0);
     records.fill(0);
     slots.fill(0);
-    set_roots(cr3s, records, z);
+    set_roots(cr3s, records, m);
     Ok(Answer::Done)
 }

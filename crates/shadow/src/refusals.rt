@@ -1,13 +1,12 @@
 // What setup and the event call test before they act: the lowest number that is due.
-ghost use Rattle.std.specs.Prelude.{◌≡◌, true, not, ◌&&◌, [], ◌*◌, ◌≤◌, length, get_or};
+ghost use Rattle.std.specs.Prelude.{◌≡◌, true, false, not, ◌&&◌, [], ◌*◌, ◌≤◌, length, get_or, MatchOption, IfOk};
 ghost use Rattle.paging.specs.Numbers.{all};
 ghost use Rattle.rules.specs.Refusal.{refusal_of};
 ghost use Rattle.tables.specs.State.{shadow_of, state_of, machine64};
-ghost use Rattle.tables.specs.SizesCode.{Sized};
-ghost use Rattle.shadow.specs.Refusals.{ranges_fit, lengths_fit, pool_fits, in_pool, frames_fit, call_refusal, setup_refusal};
+ghost use Rattle.shadow.specs.Refusals.{ranges_fit, lengths_fit, in_pool, frames_fit, call_refusal, setup_refusal};
 
 use rules::{Event, Refusal};
-use tables::Sizes;
+use tables::{Ranged, Sizes};
 
 #[tactic(auto, unfolding(crate::specs::Refusals::ranges_fit))]
 fn ranges_fit(z: Sizes) -> bool
@@ -36,39 +35,38 @@ fn sizes_fit(map: &[u64], pool: &[u64], records: &[u64], slots: &[u64], z: Sizes
     ranges_fit(z) && lengths_fit(map, pool, records, slots, z)
 }
 
-// The pool's end is found without a sum that may wrap.
-#[tactic(auto, unfolding(crate::specs::Refusals::pool_fits))]
-fn pool_fits(z: Sizes) -> bool
-    requires { z.processors * z.share ≤ 64 }
-    ensures { result ≡ pool_fits (machine64 z) }
-{
-    z.base <= 0x100_0000_0000 && z.base + z.processors * z.share <= 0x100_0000_0000
-}
-
 #[tactic(auto, unfolding(crate::specs::Refusals::in_pool))]
-fn in_pool(z: Sizes, f: u64) -> bool
-    requires { Sized z }
-    ensures { result ≡ in_pool (machine64 z) f }
+fn in_pool(m: Ranged, f: u64) -> bool
+    ensures { result ≡ in_pool (machine64 m.sizes) f }
 {
-    (z.base..z.base + tables::table_count(z)).contains(&f)
+    let base = m.sizes.base;
+    (base..base + tables::table_count(m)).contains(&f)
 }
 
-fn outside_pool(map: &[u64], z: Sizes) -> bool
-    requires { Sized z }
-    ensures { result ≡ all (length map.now) (λ i. not (in_pool (machine64 z) (get_or map.now i 0))) }
+fn outside_pool(map: &[u64], m: Ranged) -> bool
+    ensures { result ≡ all (length map.now) (λ i. not (in_pool (machine64 m.sizes) (get_or map.now i 0))) }
 {
-    map.iter().all(|f| !in_pool(z, *f))
+    map.iter().all(|f| !in_pool(m, *f))
 }
 
-#[tactic(auto, unfolding(crate::specs::Refusals::frames_fit))]
-fn frames_fit(map: &[u64], z: Sizes) -> bool
+#[tactic(auto, using(crate::proofs::Accepted::pool_sized), unfolding(crate::specs::Refusals::frames_fit))]
+fn frames_fit(map: &[u64], m: Ranged) -> bool
+    ensures { result ≡ frames_fit (machine64 m.sizes) map.now }
+{
+    paging::map_fits(map) && outside_pool(map, m)
+}
+
+// The sizes as ones in range, if pool and map fit them.
+#[tactic(auto, using(crate::proofs::Accepted::fits_unsized))]
+fn fit_frames(map: &[u64], z: Sizes) -> Option<Ranged>
     requires { ranges_fit (machine64 z) ≡ true }
-    ensures { result ≡ frames_fit (machine64 z) map.now }
+    ensures { MatchOption result (frames_fit (machine64 z) map.now ≡ false) (λ m. (m.sizes ≡ z) × (frames_fit (machine64 z) map.now ≡ true)) }
 {
-    pool_fits(z) && paging::map_fits(map) && outside_pool(map, z)
+    let m = Ranged::of(z)?;
+    frames_fit(map, m).then_some(m)
 }
 
-// Whether an event call is accepted; else the lowest refusal that is due.
+// The sizes in range of an event call that is accepted; else the lowest refusal that is due.
 #[tactic(auto, unfolding(crate::specs::Refusals::call_refusal, rules::specs::Refusal::refusal))]
 pub fn test_call(
     map: &[u64],
@@ -78,20 +76,22 @@ pub fn test_call(
     slots: &[u64],
     z: Sizes,
     e: Event,
-) -> Result<(), Refusal>
-    ensures { refusal_of result ≡ call_refusal (machine64 z) map.now (state_of words.now (shadow_of pool.now records.now) slots.now) e }
+) -> Result<Ranged, Refusal>
+    ensures same { IfOk result (λ m. m.sizes ≡ z) }
+    ensures refusal { refusal_of result ≡ call_refusal (machine64 z) map.now (state_of words.now (shadow_of pool.now records.now) slots.now) e }
 {
     rules::unless(sizes_fit(map, pool, records, slots, z), Refusal::WrongSizes)?;
     let long = words.len() == paging::FRAME_WORDS * z.frames as usize;
     rules::unless(long, Refusal::WrongSizes)?;
-    rules::unless(frames_fit(map, z), Refusal::WrongMap)?;
-    let lawful = lawful::is_lawful(map, pool, records, slots, z);
+    let m = fit_frames(map, z).ok_or(Refusal::WrongMap)?;
+    let lawful = lawful::is_lawful(map, pool, records, slots, m);
     rules::unless(lawful, Refusal::Unlawful)?;
     rules::test_event(z.frames, z.processors, e)?;
-    rules::unless(z.share > 3, Refusal::TooFewTables)
+    rules::unless(z.share > 3, Refusal::TooFewTables)?;
+    Ok(m)
 }
 
-// Whether a setup is accepted; else the lowest refusal that is due.
+// The sizes in range of a setup that is accepted; else the lowest refusal that is due.
 #[tactic(auto, unfolding(crate::specs::Refusals::setup_refusal, rules::specs::Refusal::refusal))]
 pub fn test_setup(
     map: &[u64],
@@ -100,11 +100,13 @@ pub fn test_setup(
     records: &[u64],
     slots: &[u64],
     z: Sizes,
-) -> Result<(), Refusal>
-    ensures { refusal_of result ≡ setup_refusal (machine64 z) map.now cr3s.now (state_of [] (shadow_of pool.now records.now) slots.now) }
+) -> Result<Ranged, Refusal>
+    ensures same { IfOk result (λ m. m.sizes ≡ z) }
+    ensures refusal { refusal_of result ≡ setup_refusal (machine64 z) map.now cr3s.now (state_of [] (shadow_of pool.now records.now) slots.now) }
 {
     rules::unless(sizes_fit(map, pool, records, slots, z), Refusal::WrongSizes)?;
     rules::unless(cr3s.len() as u64 == z.processors, Refusal::WrongSizes)?;
-    rules::unless(frames_fit(map, z), Refusal::WrongMap)?;
-    rules::unless(paging::cr3s_fit(z.frames, cr3s), Refusal::NoFrame)
+    let m = fit_frames(map, z).ok_or(Refusal::WrongMap)?;
+    rules::unless(paging::cr3s_fit(z.frames, cr3s), Refusal::NoFrame)?;
+    Ok(m)
 }

@@ -18,6 +18,7 @@ fn read_text<R: Read>(reader: &mut R, text: &mut [u8]) -> io::Result<usize>
     ensures { IfOk result (λ n. n ≤ length text.new) }
 {
     let mut at = 0;
+    // Kept: no slice is walked by one; each turn goes on by as many bytes as a read gave.
     while at < text.len() {
         let n = reader.read(&mut text[at..])?;
         if n == 0 {

@@ -1,4 +1,4 @@
--- Three ways out: a slot, the shadow path, a miss.
+-- The numbers on the way are small; the shadow path answers, or a miss.
 use mathlib.Core.Path.{◌≡◌, refl, sym, ap, ◌∙◌, subst⁻¹}
 use Prim.Native.Nat.{ℕ, ◌<◌, ◌≤◌}
 use native.Mathlib.Omega.{arith}
@@ -20,20 +20,20 @@ adds-of : (c : After-request_of-q) → c.request_of-q.result.adds ≤ 20
 adds-of c =
     omega (arith, ap (λ (q : Request). q.adds) c.request_of-q.ensures, adds_small c.args.request c.requires.request_bound)
 
-on-path : (c : After-path_to-w) → OnPath (machine64 c.args.z) 1 c.path_to-w.result
+on-path : (c : After-path_to-w) → OnPath (machine64 c.args.m.sizes) 1 c.path_to-w.result
 on-path c =
     let a = c.args in
-    subst⁻¹ (OnPath (machine64 a.z) 1) c.path_to-w.ensures
-    (path_range (machine64 a.z) a.pool.now a.p c.page_of-page.result 1 (omega (arith, root_small c.requires.ready.owner.sized a.p c.requires.ready.owner.own)) (omega arith))
+    subst⁻¹ (OnPath (machine64 a.m.sizes) 1) c.path_to-w.ensures
+    (path_range (machine64 a.m.sizes) a.pool.now a.p c.page_of-page.result 1 (omega (arith, root_small c.args.m.sized a.p c.requires.ready.owner.own)) (omega arith))
 
-index_is : (c : After-index_of) → OnPath (machine64 c.args.z) 1 c.path_to-w.result → c.index_of.result ≡ index tables64 c.page_of-page.result c.path_to-w.result.level
+index_is : (c : After-index_of) → OnPath (machine64 c.args.m.sizes) 1 c.path_to-w.result → c.index_of.result ≡ index tables64 c.page_of-page.result c.path_to-w.result.level
 index_is c on = c.index_of.ensures ∙ ap (index tables64 c.page_of-page.result) (sym on.level)
 
 pub serving_slot-requires : goal.serving_slot-requires
-serving_slot-requires c = ((omega (arith, c.requires.ready.owner.own, c.requires.ready.owner.sized.processors), c.requires.ready.owner.triples), needs-of (goal.at.serving_slot-requires c).After-request_of-q)
+serving_slot-requires c = ((omega (arith, c.requires.ready.owner.own, c.args.m.sized.processors), c.requires.ready.owner.triples), needs-of (goal.at.serving_slot-requires c).After-request_of-q)
 
 pub entry_at-e-requires : goal.entry_at-e-requires
-entry_at-e-requires c = (omega (arith, (on-path (goal.at.entry_at-e-requires c).After-path_to-w).table, few c.requires.ready.owner.sized), omega (arith, c.index_of.ensures, index_small tables64 c.page_of-page.result 1))
+entry_at-e-requires c = (omega (arith, (on-path (goal.at.entry_at-e-requires c).After-path_to-w).table, few c.args.m.sized), omega (arith, c.index_of.ensures, index_small tables64 c.page_of-page.result 1))
 
 pub path_serves-requires : goal.path_serves-requires
 path_serves-requires c = ((on-path (goal.at.path_serves-requires c).After-path_to-w).rights, needs-of (goal.at.path_serves-requires c).After-request_of-q)
@@ -44,7 +44,7 @@ host_address-requires-then-path_serves c = omega (arith, c.frame_of.ensures, fra
 pub returns-then-path_serves : goal.returns-then-path_serves
 returns-then-path_serves c =
     let a = c.args in
-    access_path (machine64 a.z) a.map.now a.p a.a a.request (state_of a.words.now (shadow_of a.pool.now a.records.now) a.slots.now)
+    access_path (machine64 a.m.sizes) a.map.now a.p a.a a.request (state_of a.words.now (shadow_of a.pool.now a.records.now) a.slots.now)
     c.page_of-page.ensures c.request_of-q.ensures refl c.in_default.ensures
     c.path_to-w.result _ _ c.path_to-w.ensures (index_is (goal.at.returns-then-path_serves c).After-index_of (on-path (goal.at.returns-then-path_serves c).After-path_to-w)) c.entry_at-e.ensures
     (sym c.path_serves.ensures ∙ c.if-path_serves.true)
@@ -56,7 +56,7 @@ miss-requires c = record { ready = c.requires.ready; needs_bound = (needs-of (go
 pub returns : goal.returns
 returns c =
     let a = c.args in
-    access_miss (machine64 a.z) a.map.now a.p a.a a.request (state_of a.words.now (shadow_of a.pool.now a.records.now) a.slots.now)
+    access_miss (machine64 a.m.sizes) a.map.now a.p a.a a.request (state_of a.words.now (shadow_of a.pool.now a.records.now) a.slots.now)
     c.page_of-page.ensures c.request_of-q.ensures refl c.in_default.ensures
     c.path_to-w.result _ _ c.path_to-w.ensures (index_is (goal.at.returns c).After-index_of (on-path (goal.at.returns c).After-path_to-w)) c.entry_at-e.ensures
     (sym c.path_serves.ensures ∙ c.if-path_serves.false)

@@ -1,4 +1,4 @@
--- The walk ends in a fault, without a right, or in a fill.
+-- Where the walk is whole, its last table and its rights are in range.
 use mathlib.Core.Path.{◌≡◌, ap, ◌∙◌}
 use Prim.Native.Nat.{◌<◌, ◌^◌}
 use native.Mathlib.Omega.{arith}
@@ -19,7 +19,7 @@ cr3-small c =
 range : (c : After-walk_guest) → c.shadowed_by-cr3.result.0 < 2 ^ 40 → InRange (2 ^ 40) c.walk_guest.result
 range c small =
     let a = c.args in
-    guest_range tables64 a.z.frames a.page (2 ^ 40) (omega (arith, c.requires.ready.owner.sized.frames)) a.words.now c.shadowed_by-cr3.result small c.walk_guest.ensures
+    guest_range tables64 a.m.sizes.frames a.page (2 ^ 40) (omega (arith, c.args.m.sized.frames)) a.words.now c.shadowed_by-cr3.result small c.walk_guest.ensures
 
 whole-range : (c : After-walk_guest) → c.shadowed_by-cr3.result.0 < 2 ^ 40 → (x : Walked) → c.walk_guest.result ≡ Ok x → (x.last.0 < 2 ^ 40) × (x.walk.rights < 8)
 whole-range c small x q = rw q at (range c small)

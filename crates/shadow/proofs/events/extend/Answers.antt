@@ -29,9 +29,9 @@ pub set_slot-requires : goal.set_slot-requires
 set_slot-requires c =
     let a = c.args in
     let s = c.slot_of-slot.result in
-    let small = place_small (machine64 a.z) a.map.now (s.mark - 1) c.entry_at-e.result c.in-Some.place (sym c.place_below.ensures ∙ c.in-Some.is) in (
-      (omega (arith, c.requires.owner.sized.processors, c.requires.owner.own), c.requires.owner.triples),
+    let small = place_small (machine64 a.m.sizes) a.map.now (s.mark - 1) c.entry_at-e.result c.in-Some.place (sym c.place_below.ensures ∙ c.in-Some.is) in (
+      (omega (arith, c.args.m.sized.processors, c.requires.owner.own), c.requires.owner.triples),
       c.requires.slot,
-      omega (arith, small, c.requires.guests, few c.requires.owner.sized),
+      omega (arith, small, c.requires.guests, few c.args.m.sized),
       omega (arith, c.shared_rights-rights.ensures, meet_small s.rights c.rights_of.result),
     )

@@ -10,5 +10,5 @@ use Rattle.shadow.proofs.refusals.outside_pool.Goals as goal
 pub returns : goal.returns
 returns c =
     let xs = c.args.map.now in
-    all_from_yields_List (λ f. not (in_pool (machine64 c.args.z) f)) _ _ c.all.result c.all.ensures.ran (YieldsList-from_slice xs cc) (λ x b q k. search (rules, tests))
-    ∙ all_list (λ f. not (in_pool (machine64 c.args.z) f)) xs
+    all_from_yields_List (λ f. not (in_pool (machine64 c.args.m.sizes) f)) _ _ c.all.result c.all.ensures.ran (YieldsList-from_slice xs cc) (λ x b q k. search (rules, tests))
+    ∙ all_list (λ f. not (in_pool (machine64 c.args.m.sizes) f)) xs
