@@ -1,6 +1,6 @@
 -- The path that is left to go says the same at every turn.
 use mathlib.Core.Path.{◌≡◌}
-use Prim.Native.Nat.{◌-◌, ◌≤◌, ◌<◌}
+use Prim.Native.Nat.{◌-◌, ◌≤◌}
 use Rattle.tables.specs.State.{machine64, descend, path_to}
 use Rattle.tables.proofs.path_to.Given as goal
 
