@@ -43,11 +43,11 @@ pub fn walk_guest(words: &mut [u64], frames: u64, cr3: Guest, page: u64) -> Resu
 }
 
 // A request that needs W sets D in the last entry.
-pub fn set_d(words: &mut [u64], q: Request, page: u64, last: Guest)
+pub fn set_d(words: &mut [u64], q: &Request, page: u64, last: Guest)
     requires { last.0 < 2 ^ 40 }
-    ensures { words.new ≡ dirtied tables64 q page last words.old }
+    ensures { words.new ≡ dirtied tables64 q.now page last words.old }
 {
-    if q.needs % 2 == 1 {
+    if paging::is_write(q) {
         let i = paging::index_of(page, 1);
         let e = paging::entry_at(words, last.0, i);
         paging::write_entry(words, last.0, i, paging::set_dirty(e));

@@ -11,7 +11,7 @@ use Rattle.paging.specs.declared.Walk.{Walk}
 use Rattle.paging.specs.declared.Stop.TheVariants.{Absent, Beyond, Complete}
 use Rattle.paging.specs.Layout.{Layout, frame_words, index, rights_of}
 use Rattle.paging.proofs.Steps.{Goes, goes}
-use Rattle.paging.proofs.Rights.{meet_small}
+use Rattle.paging.proofs.Meets.{meet_small}
 use Rattle.held.specs.Work.{cell, HasByte}
 use Rattle.held.specs.FollowCode.{onward, step_in, follow, followed, reread, reread_all, reread_at, reread_word}
 

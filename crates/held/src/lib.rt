@@ -8,7 +8,7 @@ ghost use Rattle.held.specs.Work.{cell, work_bytes, HasByte};
 ghost use Rattle.held.specs.FollowCode.{step_in, followed, reread, reread_all, reread_at, reread_word, restarted, Room};
 ghost use Rattle.paging.specs.declared.Guest.{Guest};
 
-use paging::{Guest, Step, Walk};
+use paging::{Guest, Rights, Step, Walk};
 
 const WORDS: u64 = paging::FRAME_WORDS as u64;
 
@@ -19,12 +19,12 @@ pub struct AskedPage {
     pub page: u64,
 }
 
-pub fn cell_of(frames: u64, w: Walk) -> usize
-    requires { (frames ≤ 256) × HasByte frames w }
-    ensures { result ≡ cell frames w }
+pub fn cell_of(frames: u64, w: &Walk) -> usize
+    requires { (frames ≤ 256) × HasByte frames w.now }
+    ensures { result ≡ cell frames w.now }
 {
     let row = w.level * frames + w.frame.0;
-    (row * 8 + w.rights) as usize
+    (row * 8 + w.rights.number()) as usize
 }
 
 pub fn next(words: &[u64], at: AskedPage, w: Walk) -> Step
@@ -47,7 +47,7 @@ fn follow(words: &[u64], work: &mut [u8], at: AskedPage, from: Walk)
     let mut w = from;
     // Kept: a loop, since each walk is what the one before goes on to, and a marked one ends it too.
     loop {
-        let k = cell_of(at.frames, w);
+        let k = cell_of(at.frames, &w);
         if work[k] == 1 {
             return;
         }
@@ -64,7 +64,7 @@ fn reread(words: &[u64], work: &mut [u8], at: AskedPage, w: Walk)
     requires { Room at.frames words.now work.old × HasByte at.frames w }
     ensures { work.new ≡ reread tables64 at.frames at.page words.now w work.old }
 {
-    let k = cell_of(at.frames, w);
+    let k = cell_of(at.frames, &w);
     if work[k] != 1 {
         return;
     }
@@ -82,7 +82,7 @@ fn reread_all(words: &[u64], work: &mut [u8], at: AskedPage, level: u64, f: u64)
         let w = Walk {
             level,
             frame: Guest(f),
-            rights,
+            rights: Rights::of(rights),
         };
         reread(words, work, at, w);
     }

@@ -17,7 +17,7 @@ use Rattle.paging.specs.Walk.{meet}
 use Rattle.paging.specs.Sound.{Sound}
 use Rattle.paging.proofs.Layouts.{length-put, get_with_bit, get-past}
 use Rattle.paging.proofs.Indices.{index_small}
-use Rattle.paging.proofs.Rights.{meet_small, rights_small, needs_small}
+use Rattle.paging.proofs.Meets.{meet_small, rights_small, needs_small}
 use Rattle.tables.specs.declared.Path.{Path}
 use Rattle.tables.specs.State.{Machine, State, top, next_entry, descend, path_to}
 use Rattle.guest.specs.GuestWalk.{whole, guest_entry, dirtied}

@@ -9,7 +9,7 @@ use Rattle.paging.specs.declared.Request.{Request}
 use Rattle.paging.specs.Walk.{meet}
 use Rattle.paging.specs.Request.{enough, is_write}
 use Rattle.paging.proofs.Finite.{below, at-below, at_below₂}
-use Rattle.paging.proofs.Rights.{meet_small, enough-meet}
+use Rattle.paging.proofs.Meets.{meet_small, enough-meet}
 use Rattle.paging.proofs.Tests.{T_true}
 
 abbrev asks : ℕ → Request

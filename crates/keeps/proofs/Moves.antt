@@ -16,7 +16,7 @@ use Rattle.paging.specs.declared.Guest.{Guest}
 use Rattle.paging.specs.Frame.{guest, host, origin_of}
 use Rattle.paging.specs.Layout.{Layout, index, page_of, frame_of, rights_of, is_present}
 use Rattle.paging.specs.Walk.{meet}
-use Rattle.paging.proofs.Rights.{meet_small}
+use Rattle.paging.proofs.Meets.{meet_small}
 use Rattle.tables.specs.declared.Path.{Path}
 use Rattle.tables.specs.State.{Machine, State, state_of, table_count, root_of, entry_of, named, top, next_entry, down, descend, path_to}
 use Rattle.slots.specs.Slots.{slot_count, mark_of, page_in, place_in, rights_in, with_slot, emptied}

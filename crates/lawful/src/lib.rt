@@ -40,7 +40,7 @@ fn hints_of(map: &[u64]) -> [u8; 4096] {
 }
 
 // Whether an entry is made of its own rights and frame, of the D given, and of nothing else.
-#[tactic(auto, using(paging::proofs::Rights::rights_small, tables::proofs::Names::frame_small), unfolding(crate::specs::Rules::is_made_with))]
+#[tactic(auto, using(tables::proofs::Names::frame_small), unfolding(crate::specs::Rules::is_made_with))]
 fn is_made_with(d: u64, e: u64) -> bool
     requires { d < 2 }
     ensures { result ≡ is_made_with tables64 d e }
@@ -61,7 +61,7 @@ impl<'a> Known<'a> {
     fn is_leaf(&self, e: u64) -> bool
         ensures { result ≡ is_leaf tables64 self.now.map.now e }
     {
-        is_made_with(paging::rights_of(e) % 2, e) && self.is_mapped(paging::frame_of(e))
+        is_made_with(paging::rights_of(e).number() % 2, e) && self.is_mapped(paging::frame_of(e))
     }
 
     #[tactic(auto, unfolding(crate::specs::Rules::is_branch))]
@@ -250,7 +250,7 @@ impl<'a> Known<'a> {
         let s = slots::slot_of(self.slots, p, k);
         s.page < PAGES
             && match s.mark {
-                0 => s.page == 0 && s.place == 0 && s.rights == 0,
+                0 => s.page == 0 && s.place == 0 && s.rights.number() == 0,
                 1 => s.place < self.m.sizes.frames,
                 2..=5 => self.is_on_path(p, s.mark - 1, s),
                 _ => false,

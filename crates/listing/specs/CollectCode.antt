@@ -1,5 +1,5 @@
 -- How the code collects the outcomes from the work bytes, in the form of its code.
-use Rattle.std.specs.Prelude.{Bool, true, false, cond, not, ◌&&◌, ◌||◌, List, ℕ, ◌+◌, ◌*◌, ◌/◌, ◌%◌, ◌≤◌, ◌<◌, eqb, length, get_or, set, Ok, Err}
+use Rattle.std.specs.Prelude.{Bool, true, false, cond, not, ◌&&◌, ◌||◌, List, ℕ, ◌+◌, ◌*◌, ◌/◌, ◌%◌, ◌≤◌, eqb, length, get_or, set, Ok, Err}
 use Rattle.paging.specs.Walk.{Step}
 use Rattle.paging.specs.declared.Walk.{Walk}
 use Rattle.paging.specs.declared.Request.{Request}
@@ -14,11 +14,10 @@ use Rattle.held.specs.Work.{work_bytes}
 use Rattle.held.specs.FollowCode.{is_set, walk_of, step_in}
 use Rattle.paging.specs.Layout.{tables64}
 
--- bytes that can be read for a request
-pub record Readable (G : ℕ) (q : Request) (work : List ℕ) : Type 0 where
+-- bytes that can be read
+pub record Readable (G : ℕ) (work : List ℕ) : Type 0 where
   pub few : G ≤ 256
   pub bytes : work_bytes G ≤ length work
-  pub needs : q.needs < 8
 
 -- the outcomes written so far, and the buffer
 pub record Out : Type 0 where

@@ -13,7 +13,7 @@ ghost use Rattle.listing.specs.CollectCode.{Readable, written, out_of, walk_at, 
 ghost use Rattle.held.specs.FollowCode.{Room};
 
 use held::AskedPage;
-use paging::{Guest, Request, Step, Stop, Walk};
+use paging::{Guest, Request, Rights, Step, Stop, Walk};
 use rules::{Event, Kind, Outcome, Question, Refusal};
 
 fn forgotten(at: AskedPage, a: u64) -> usize
@@ -83,22 +83,22 @@ fn replay(
 // ---- the outcomes
 
 // Whether a held completed walk on frame f has enough rights.
-fn serves(work: &[u8], frames: u64, q: Request, f: u64) -> bool
-    requires { Readable frames q work.now × (f < frames) }
-    ensures { result ≡ serves frames q work.now f }
+fn serves(work: &[u8], frames: u64, q: &Request, f: u64) -> bool
+    requires { Readable frames work.now × (f < frames) }
+    ensures { result ≡ serves frames q.now work.now f }
 {
     let first = (8 * f) as usize;
     work[first..first + 8].iter().enumerate().any(|(rights, byte)| *byte == 1
-        && paging::has_enough(q, rights as u64))
+        && paging::has_enough(q, Rights::of(rights as u64)))
 }
 
 // Whether a held completed walk lacks a right.
-fn lacks(work: &[u8], frames: u64, q: Request) -> bool
-    requires { Readable frames q work.now }
-    ensures { result ≡ lacks frames q work.now }
+fn lacks(work: &[u8], frames: u64, q: &Request) -> bool
+    requires { Readable frames work.now }
+    ensures { result ≡ lacks frames q.now work.now }
 {
     work[..(8 * frames) as usize].iter().enumerate().any(|(k, byte)| *byte == 1
-        && !paging::has_enough(q, k as u64 % 8))
+        && !paging::has_enough(q, Rights::of(k as u64)))
 }
 
 fn walk_at(frames: u64, k: u64) -> Walk
@@ -108,7 +108,7 @@ fn walk_at(frames: u64, k: u64) -> Walk
     Walk {
         level: k / 8 / frames,
         frame: Guest(k / 8 % frames),
-        rights: k % 8,
+        rights: Rights::of(k),
     }
 }
 
@@ -182,10 +182,10 @@ impl Outcomes<'_> {
 }
 
 // The addresses, by rising frame.
-fn addresses(work: &[u8], outcomes: &mut Outcomes, frames: u64, q: Request)
-    requires { Readable frames q work.now × (outcomes.old.count ≡ 0) × (2 * frames ≤ length outcomes.old.buffer.now) }
+fn addresses(work: &[u8], outcomes: &mut Outcomes, frames: u64, q: &Request)
+    requires { Readable frames work.now × (outcomes.old.count ≡ 0) × (2 * frames ≤ length outcomes.old.buffer.now) }
     ensures same_reference { outcomes.new.buffer.ghost_name ≡ outcomes.old.buffer.ghost_name }
-    ensures pairs { out_of outcomes.new.count outcomes.new.buffer.now ≡ addresses frames q work.now outcomes.old.buffer.now }
+    ensures pairs { out_of outcomes.new.count outcomes.new.buffer.now ≡ addresses frames q.now work.now outcomes.old.buffer.now }
     ensures few { outcomes.new.count ≤ frames }
     ensures size { length outcomes.new.buffer.now ≡ length outcomes.old.buffer.now }
 {
@@ -198,16 +198,16 @@ fn addresses(work: &[u8], outcomes: &mut Outcomes, frames: u64, q: Request)
 
 // Addresses by rising frame, then faults by rising code; the result is the count.
 fn collect(words: &[u64], work: &[u8], buffer: &mut [u64], at: AskedPage, q: Request) -> u64
-    requires { Room at.frames words.now work.now × (0 < at.frames) × (q.needs < 8) × (q.adds ≤ 20) × (2 * (at.frames + 3) ≤ length buffer.old) }
+    requires { Room at.frames words.now work.now × (0 < at.frames) × (q.adds ≤ 20) × (2 * (at.frames + 3) ≤ length buffer.old) }
     ensures { out_of result buffer.new ≡ collected at.frames at.page q words.now work.now buffer.old }
 {
     let mut outcomes = Outcomes { buffer, count: 0 };
-    addresses(work, &mut outcomes, at.frames, q);
+    addresses(work, &mut outcomes, at.frames, &q);
     let faults = find_faults(words, work, at);
     if faults.absent {
         outcomes.push(Outcome::Fault(q.adds));
     }
-    if lacks(work, at.frames, q) {
+    if lacks(work, at.frames, &q) {
         outcomes.push(Outcome::Fault(1 + q.adds));
     }
     if faults.beyond {

@@ -6,7 +6,7 @@ pub mod Counts
 pub mod Chains
 pub mod Finite
 pub mod Bits
-pub mod Rights
+pub mod Meets
 pub mod Indices
 pub mod Layouts
 pub mod Narrow

@@ -2,29 +2,94 @@
 // Every shift and mask of the project stands here. Callers speak of indices, frames, rights and steps.
 #![tactic(auto)]
 
-ghost use Rattle.std.specs.Prelude.{◌≡◌, eqb, ltb, ◌<◌, ◌≤◌, ◌^◌, length, replicate};
+ghost use Rattle.std.specs.Prelude.{◌%◌, ◌≡◌, eqb, ltb, ◌<◌, ◌≤◌, ◌^◌, length, replicate};
 ghost use Rattle.std.specs.List.{list_all, position};
 ghost use Rattle.paging.specs.Numbers.{is_between};
 ghost use Rattle.paging.specs.NotesCode.{noted_at, Noted};
 ghost use Rattle.paging.specs.Frame.{host_of, origin_of, is_new, map_fits, cr3s_fit, host_address};
 ghost use Rattle.paging.specs.Layout.{tables64, page_of, index, frame_of, rights_of, compose, is_present, with_bit, bit, frame_words, get, put};
 ghost use Rattle.paging.specs.Walk.{base_of, start, narrowed, down_to, step, meet};
-ghost use Rattle.paging.specs.Request.{request_of, enough};
+ghost use Rattle.paging.specs.Request.{request_of, enough, is_write};
 
-// The rights that a request needs, W + 2 U + 4 X, and what it adds to a fault's code.
+use std::marker::Model;
+
+// Rights in one number: W + 2 U + 4 X.
+#[derive(Clone, Copy, Debug, PartialEq, Eq)]
+pub struct Rights(u64);
+
+impl Model for Rights {
+    ghost use Rattle.std.specs.Prelude.{ℕ, ◌<◌};
+
+    ghost Value = { ℕ };
+
+    ghost view = { λ r. r.0 };
+
+    ghost invariant = { λ r. r.0 < 8 };
+
+    ghost inverse = { λ n. record { 0 = n } };
+}
+
+impl Rights {
+    // The rights that both have.
+    pub fn shared(self, other: Rights) -> Rights
+        ensures { result ≡ meet self other }
+    {
+        Rights(self.0 & other.0)
+    }
+
+    // The rights in the three lowest bits of a number.
+    pub fn of(number: u64) -> Rights
+        ensures { result ≡ number % 8 }
+    {
+        Rights(number % 8)
+    }
+
+    pub fn all() -> Rights
+        ensures { result ≡ 7 }
+    {
+        Rights(7)
+    }
+
+    pub fn number(self) -> u64
+        ensures number { result ≡ self }
+        ensures small { result < 8 }
+    {
+        self.0
+    }
+}
+
+// The rights that a request needs, and what it adds to a fault's code.
 #[derive(Clone, Copy)]
 pub struct Request {
-    pub needs: u64,
+    pub needs: Rights,
     pub adds: u64,
 }
 
 const REQUESTS: [Request; 6] = [
-    Request { needs: 0, adds: 0 },
-    Request { needs: 1, adds: 2 },
-    Request { needs: 4, adds: 16 },
-    Request { needs: 2, adds: 4 },
-    Request { needs: 3, adds: 6 },
-    Request { needs: 6, adds: 20 },
+    Request {
+        needs: Rights(0),
+        adds: 0,
+    },
+    Request {
+        needs: Rights(1),
+        adds: 2,
+    },
+    Request {
+        needs: Rights(4),
+        adds: 16,
+    },
+    Request {
+        needs: Rights(2),
+        adds: 4,
+    },
+    Request {
+        needs: Rights(3),
+        adds: 6,
+    },
+    Request {
+        needs: Rights(6),
+        adds: 20,
+    },
 ];
 
 pub fn request_of(number: u64) -> Request
@@ -34,18 +99,19 @@ pub fn request_of(number: u64) -> Request
     REQUESTS[number as usize]
 }
 
-pub fn has_enough(q: Request, rights: u64) -> bool
-    requires { (q.needs < 8) × (rights < 8) }
-    ensures { result ≡ enough q rights }
+// Whether a request is a write: it needs W.
+pub fn is_write(q: &Request) -> bool
+    ensures { result ≡ is_write q.now }
 {
-    q.needs & rights == q.needs
+    let needs = q.needs;
+    flag(needs.0, 0) == 1
 }
 
-pub fn shared_rights(a: u64, b: u64) -> u64
-    requires { (a < 8) × (b < 8) }
-    ensures { result ≡ meet a b }
+pub fn has_enough(q: &Request, rights: Rights) -> bool
+    ensures { result ≡ enough q.now rights }
 {
-    a & b
+    let needs = q.needs;
+    needs.0 & rights.0 == needs.0
 }
 
 const INDEX_BITS: u64 = 9;
@@ -96,20 +162,20 @@ pub fn frame_of(e: u64) -> u64
     (e >> 12) & 0xFF_FFFF_FFFF
 }
 
-pub fn rights_of(e: u64) -> u64
+pub fn rights_of(e: u64) -> Rights
     ensures { result ≡ rights_of tables64 e }
 {
-    flag(e, 1) | (flag(e, 2) << 1) | ((flag(e, 63) ^ 1) << 2)
+    Rights(flag(e, 1) | (flag(e, 2) << 1) | ((flag(e, 63) ^ 1) << 2))
 }
 
 // The entry with P and A, with these rights, D and frame.
-pub fn composed(rights: u64, d: u64, f: u64) -> u64
-    requires { (rights < 8) × (d < 2) × (f < 2 ^ 40) }
+pub fn composed(rights: Rights, d: u64, f: u64) -> u64
+    requires { (d < 2) × (f < 2 ^ 40) }
     ensures { result ≡ compose tables64 rights d f }
 {
-    let rw = flag(rights, 0);
-    let us = flag(rights, 1);
-    let nx = flag(rights, 2) ^ 1;
+    let rw = flag(rights.0, 0);
+    let us = flag(rights.0, 1);
+    let nx = flag(rights.0, 2) ^ 1;
     1 | (rw << 1) | (us << 2) | (1 << 5) | (d << 6) | (f << 12) | (nx << 63)
 }
 
@@ -258,7 +324,7 @@ pub fn cr3s_fit(frames: u64, cr3s: &[u64]) -> bool
 pub struct Walk {
     pub level: u64,
     pub frame: Guest,
-    pub rights: u64,
+    pub rights: Rights,
 }
 
 // Why a walk goes no further: P is 0; the frame is none of the guest's; it was complete before.
@@ -292,16 +358,15 @@ impl Walk {
         Walk {
             level: 4,
             frame: cr3,
-            rights: 7,
+            rights: Rights::all(),
         }
     }
 
     fn narrow(self, e: u64) -> Walk
-        requires { self.rights < 8 }
         ensures { result ≡ narrowed tables64 self e }
     {
         Walk {
-            rights: shared_rights(self.rights, rights_of(e)),
+            rights: self.rights.shared(rights_of(e)),
             ..self
         }
     }
@@ -318,7 +383,6 @@ impl Walk {
     }
 
     pub fn step(self, e: u64, frames: u64) -> Step
-        requires { self.rights < 8 }
         ensures { result ≡ step tables64 frames self e }
     {
         let f = frame_of(e);

@@ -10,7 +10,7 @@ use Rattle.paging.specs.Frame.{guest, host, host_of, origin_of}
 use Rattle.paging.specs.Layout.{frame_of, rights_of, is_present}
 use Rattle.paging.specs.Walk.{meet}
 use Rattle.paging.proofs.Frames.{fits_distinct, origin_host}
-use Rattle.paging.proofs.Rights.{meet_small}
+use Rattle.paging.proofs.Meets.{meet_small}
 use Rattle.rules.specs.declared.Event.{Event}
 use Rattle.rules.specs.History.{event_at}
 use Rattle.rules.specs.View.{View}

@@ -14,7 +14,7 @@ use Rattle.paging.specs.declared.Request.{Request}
 use Rattle.paging.specs.Frame.{guest, host, host_of, host_address}
 use Rattle.paging.specs.Layout.{page_of}
 use Rattle.paging.specs.Request.{request_of, enough}
-use Rattle.paging.proofs.Rights.{needs_small}
+use Rattle.paging.proofs.Meets.{needs_small}
 use Rattle.rules.specs.declared.Event.{Event}
 use Rattle.rules.specs.declared.Outcome.{Outcome}
 use Rattle.rules.specs.History.{Fit, event_at}

@@ -14,7 +14,7 @@ use Rattle.paging.specs.Layout.{rights_of, page_of}
 use Rattle.paging.specs.Walk.{start}
 use Rattle.paging.proofs.Steps.{Goes, step_complete, goes, completed}
 use Rattle.paging.specs.Sound.{Sound}
-use Rattle.paging.proofs.Rights.{meet_small}
+use Rattle.paging.proofs.Meets.{meet_small}
 use Rattle.paging.proofs.Tests.{T_true, and_l, and_r, or_r}
 use Rattle.rules.specs.declared.Event.{Event}
 use Rattle.rules.specs.History.{Setup, Fit, is_by, is_cr3_write, event_at, cr3_at}

@@ -1,19 +1,16 @@
--- An access that no slot answers: the shadow path does, or a miss. And the numbers of a request are small.
+-- An access that no slot answers: the shadow path does, or a miss.
 use mathlib.Core.Path.{◌≡◌, refl, ap, ap₂, ◌∙◌}
-use mathlib.Core.Bool.{Bool, true, false, cond, ◌&&◌}
+use mathlib.Core.Bool.{true, false, cond, ◌&&◌}
 use mathlib.Core.List.{List}
-use Prim.Native.Nat.{ℕ, zero, suc, ◌-◌, ◌<◌, ◌≤◌}
+use Prim.Native.Nat.{ℕ, zero, suc, ◌-◌, ◌≤◌}
 use native.Mathlib.Omega.{arith}
-use lib.Dec.{T, ltb, leb, ltb→lt, leb→le}
+use lib.Dec.{ltb}
 use borrow.Author.Tests.{le-ltb}
 use Rattle.paging.specs.declared.Request.{Request}
 use Rattle.paging.specs.Frame.{guest, host, host_of, host_address}
-use Rattle.paging.specs.Layout.{tables64, index, page_of, frame_of, rights_of, is_present}
+use Rattle.paging.specs.Layout.{index, page_of, frame_of, rights_of, is_present}
 use Rattle.paging.specs.Request.{request_of, enough}
 use Rattle.paging.specs.Walk.{meet}
-use Rattle.paging.proofs.Finite.{at-below}
-use Rattle.paging.proofs.Tests.{and_l, and_r}
-use Rattle.paging.proofs.Rights.{meet_small}
 use Rattle.tables.specs.declared.Path.{Path}
 use Rattle.tables.specs.State.{Machine, State, table_count, root_of, entry_of, top, down, next_entry, descend, path_to}
 use Rattle.slots.specs.Slots.{place_in, serving_slot}
@@ -22,41 +19,25 @@ use Rattle.shadow.specs.declared.Answer.TheVariants.{Address}
 use Rattle.shadow.specs.Answer.{Reply, gives}
 use Rattle.shadow.specs.Access.{after_miss, after_access}
 
-small : ℕ → Bool
-small n = ltb (request_of tables64 n).needs 8 && leb (request_of tables64 n).adds 20
-
-all_small : (n : ℕ) → n < 6 → T (small n)
-unfolding small request_of
-all_small n h = at-below 6 small tt n h
-
-pub needs_small : (n : ℕ) → n < 6 → (request_of tables64 n).needs < 8
-unfolding small
-needs_small n h = ltb→lt (request_of tables64 n).needs 8 (and_l (ltb (request_of tables64 n).needs 8) _ (all_small n h))
-
-pub adds_small : (n : ℕ) → n < 6 → (request_of tables64 n).adds ≤ 20
-unfolding small
-adds_small n h = leb→le (request_of tables64 n).adds 20 (and_r (ltb (request_of tables64 n).needs 8) _ (all_small n h))
-
 -- where a path stands is in range
 pub record OnPath (M : Machine) (l : ℕ) (w : Path) : Type 0 where
   pub level : w.level ≡ l
   pub table : w.table ≤ table_count M
-  pub rights : w.rights < 8
 
 descend_range : (M : Machine) (pool : List ℕ) (page n l : ℕ) (w : Path) → OnPath M l w → OnPath M (l - n) (descend M pool page n w)
 unfolding descend
-descend_range M pool page zero l w on = record { level = omega (arith, on.level); table = on.table; rights = on.rights }
+descend_range M pool page zero l w on = record { level = omega (arith, on.level); table = on.table }
 descend_range M pool page (suc n) l w on =
     let e = next_entry M pool page w in
     let r = descend_range M pool page n (l - 1) (down M w e)
-    (record { level = omega (arith, on.level); table = named_small M e; rights = meet_small w.rights (rights_of M.tables e) }) in
-    record { level = omega (arith, r.level); table = r.table; rights = r.rights }
+    (record { level = omega (arith, on.level); table = named_small M e }) in
+    record { level = omega (arith, r.level); table = r.table }
 
 pub path_range : (M : Machine) (pool : List ℕ) (p page l : ℕ) → root_of M p ≤ table_count M → l ≤ M.tables.levels → OnPath M l (path_to M pool p page l)
 path_range M pool p page l h hl =
     let r = descend_range M pool page (M.tables.levels - l) M.tables.levels (top M p)
-    (record { level = refl; table = h; rights = omega arith }) in
-    record { level = omega (arith, r.level); table = r.table; rights = r.rights }
+    (record { level = refl; table = h }) in
+    record { level = omega (arith, r.level); table = r.table }
 
 module _ (M : Machine) (map : List ℕ) (p a r : ℕ) (s : State) where
   abbrev by_all : ℕ → Request → ℕ → Path → ℕ → Reply

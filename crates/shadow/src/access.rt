@@ -9,6 +9,7 @@ ghost use Rattle.shadow.specs.Access.{after_miss, after_access};
 ghost use Rattle.shadow.specs.ReadyCode.{Ready};
 
 use crate::{Answer, fill};
+use guest::Walked;
 use paging::{Guest, Host, Request};
 use tables::{Path, Ranged};
 
@@ -23,32 +24,30 @@ fn miss(
     m: Ranged,
     p: u64,
     page: u64,
-    q: Request,
+    q: &Request,
 ) -> Answer
     requires ready { Ready m.sizes map.now records.old slots.old p }
-    requires needs_bound { (q.needs < 8) × (q.adds ≤ 20) }
-    ensures { gives result (state_of words.new (shadow_of pool.new records.new) slots.new) ≡ after_miss (machine64 m.sizes) map.now p page q (state_of words.old (shadow_of pool.old records.old) slots.old) }
+    requires adds_bound { q.now.adds ≤ 20 }
+    ensures { gives result (state_of words.new (shadow_of pool.new records.new) slots.new) ≡ after_miss (machine64 m.sizes) map.now p page q.now (state_of words.old (shadow_of pool.old records.old) slots.old) }
 {
     let cr3 = tables::shadowed_by(records, tables::root_of(m, p));
     match guest::walk_guest(words, m.sizes.frames, cr3, page) {
         Err(stop) => Answer::Fault(stop.base_code() + q.adds),
-        Ok(walked) => {
-            if !paging::has_enough(q, walked.walk.rights) {
+        Ok(Walked { last, walk }) => {
+            if !paging::has_enough(q, walk.rights) {
                 return Answer::Fault(1 + q.adds);
             }
-            guest::set_d(words, q, page, walked.last);
+            guest::set_d(words, q, page, last);
             fill::fill(map, words, pool, records, slots, m, p, page);
             Answer::Again
         }
     }
 }
 
-fn path_serves(w: Path, e: u64, q: Request) -> bool
-    requires { (w.rights < 8) × (q.needs < 8) }
-    ensures { result ≡ (is_present e && enough q (meet w.rights (rights_of tables64 e))) }
+fn path_serves(w: Path, e: u64, q: &Request) -> bool
+    ensures { result ≡ (is_present e && enough q.now (meet w.rights (rights_of tables64 e))) }
 {
-    paging::present(e)
-        && paging::has_enough(q, paging::shared_rights(w.rights, paging::rights_of(e)))
+    paging::present(e) && paging::has_enough(q, w.rights.shared(paging::rights_of(e)))
 }
 
 #[tactic(auto, unfolding(crate::specs::Access::after_access))]
@@ -69,14 +68,14 @@ pub fn access(
 {
     let page = paging::page_of(a);
     let q = paging::request_of(request);
-    if let Some(k) = slots::serving_slot(slots, p, page, q) {
+    if let Some(k) = slots::serving_slot(slots, p, page, &q) {
         let place = Guest(slots::slot_of(slots, p, k).place);
         return Answer::Address(paging::host_address(paging::host_of(map, place), a));
     }
     let w = tables::path_to(pool, m, p, page, 1);
     let e = paging::entry_at(pool, w.table, paging::index_of(page, 1));
-    if path_serves(w, e, q) {
+    if path_serves(w, e, &q) {
         return Answer::Address(paging::host_address(Host(paging::frame_of(e)), a));
     }
-    miss(map, words, pool, records, slots, m, p, page, q)
+    miss(map, words, pool, records, slots, m, p, page, &q)
 }

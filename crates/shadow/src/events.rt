@@ -8,7 +8,7 @@ ghost use Rattle.shadow.specs.Moves.{after_store, leaf_cleared, after_invlpg, af
 ghost use Rattle.shadow.specs.ReadyCode.{Owner, Standing};
 
 use crate::Answer;
-use paging::{Guest, Host};
+use paging::{Guest, Host, Rights};
 use slots::Slot;
 use tables::Ranged;
 
@@ -72,7 +72,7 @@ pub fn begin(slots: &mut [u64], m: Ranged, p: u64, a: u64, k: u64) -> Answer
         mark: 5,
         page: paging::page_of(a),
         place: tables::root_of(m, p),
-        rights: 7,
+        rights: Rights::all(),
     };
     slots::set_slot(slots, p, k, whole);
     Answer::Done
@@ -118,7 +118,7 @@ pub fn extend(map: &[u64], pool: &[u64], slots: &mut [u64], m: Ranged, p: u64, k
     let Some(place) = place_below(map, m, level, e) else {
         return Answer::NoStep;
     };
-    let rights = paging::shared_rights(slot.rights, paging::rights_of(e));
+    let rights = slot.rights.shared(paging::rights_of(e));
     let below = Slot {
         mark: level,
         place,

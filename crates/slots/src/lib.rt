@@ -4,7 +4,7 @@
 ghost use Rattle.std.specs.Prelude.{◌≡◌, ◌^◌, ◌<◌, ◌≤◌, MatchOption};
 ghost use Rattle.slots.specs.Slots.{slot_count, HasSlots, slot_at, slot_of, with_slot, emptied, slot_serves, serving_slot, goes_with, flushed, flush, empty_slots};
 
-use paging::Request;
+use paging::{Request, Rights};
 
 // What a slot says: its mark (0 empty, 1 complete, level + 1 partial), its page, and the place and rights of its walk.
 // Kept: the mark is a number of the C interface's buffer, and specs/ asks for it as one; a match names its kinds.
@@ -13,15 +13,8 @@ pub struct Slot {
     pub mark: u64,
     pub page: u64,
     pub place: u64,
-    pub rights: u64,
+    pub rights: Rights,
 }
-
-const EMPTY: Slot = Slot {
-    mark: 0,
-    page: 0,
-    place: 0,
-    rights: 0,
-};
 
 // "8 hardware TLB slots", of three numbers each: 24 numbers to a processor.
 pub const SLOTS: u64 = 8;
@@ -47,39 +40,45 @@ pub fn slot_of(slots: &[u64], p: u64, k: u64) -> Slot
         mark: slots[at],
         page: slots[at + 1],
         place: slots[at + 2] / 8,
-        rights: slots[at + 2] % 8,
+        rights: Rights::of(slots[at + 2]),
     }
 }
 
 pub fn set_slot(slots: &mut [u64], p: u64, k: u64, s: Slot)
-    requires { HasSlots p slots.old × (k < slot_count) × (s.place < 2 ^ 40) × (s.rights < 8) }
+    requires { HasSlots p slots.old × (k < slot_count) × (s.place < 2 ^ 40) }
     ensures { slots.new ≡ with_slot p k s.mark s.page s.place s.rights slots.old }
 {
     let at = slot_at(p, k);
     slots[at] = s.mark;
     slots[at + 1] = s.page;
-    slots[at + 2] = s.place * 8 + s.rights;
+    slots[at + 2] = s.place * 8 + s.rights.number();
 }
 
 pub fn empty_slot(slots: &mut [u64], p: u64, k: u64)
     requires { HasSlots p slots.old × (k < slot_count) }
     ensures { slots.new ≡ emptied p k slots.old }
 {
-    set_slot(slots, p, k, EMPTY);
+    let empty = Slot {
+        mark: 0,
+        page: 0,
+        place: 0,
+        rights: Rights::of(0),
+    };
+    set_slot(slots, p, k, empty);
 }
 
-fn slot_serves(slots: &[u64], p: u64, page: u64, q: Request, k: u64) -> bool
-    requires { HasSlots p slots.now × (k < slot_count) × (q.needs < 8) }
-    ensures { result ≡ slot_serves slots.now p page q k }
+fn slot_serves(slots: &[u64], p: u64, page: u64, q: &Request, k: u64) -> bool
+    requires { HasSlots p slots.now × (k < slot_count) }
+    ensures { result ≡ slot_serves slots.now p page q.now k }
 {
     let s = slot_of(slots, p, k);
     s.mark == 1 && s.page == page && paging::has_enough(q, s.rights)
 }
 
 // The lowest slot with a complete walk of the page and enough rights.
-pub fn serving_slot(slots: &[u64], p: u64, page: u64, q: Request) -> Option<u64>
-    requires { HasSlots p slots.now × (q.needs < 8) }
-    ensures { MatchOption result (slot_count ≤ serving_slot slots.now p page q) (λ k. (k < slot_count) × (k ≡ serving_slot slots.now p page q)) }
+pub fn serving_slot(slots: &[u64], p: u64, page: u64, q: &Request) -> Option<u64>
+    requires { HasSlots p slots.now }
+    ensures { MatchOption result (slot_count ≤ serving_slot slots.now p page q.now) (λ k. (k < slot_count) × (k ≡ serving_slot slots.now p page q.now)) }
 {
     (0..SLOTS).find(|&k| slot_serves(slots, p, page, q, k))
 }

@@ -10,7 +10,6 @@ use Rattle.std.specs.Prelude.{Some, None, unwrap_or}
 use Rattle.std.proofs.lemmas.Option.{none-some, same_Some}
 use Rattle.paging.specs.Layout.{tables64, index, frame_of, is_present}
 use Rattle.paging.proofs.Indices.{index_small}
-use Rattle.paging.proofs.Rights.{rights_small, meet_small}
 use Rattle.tables.specs.declared.Sizes.{Sizes}
 use Rattle.tables.specs.State.{Machine, machine64, table_count, root_of, named, named_some}
 use Rattle.tables.specs.SizesCode.{Sized}
@@ -87,4 +86,4 @@ pub index64_small : (page l : ℕ) → index tables64 page l < 512
 index64_small page l = index_small tables64 page l
 
 -- how large the numbers can be
-pub ruleset bounds = (few, root_small, frame_small, named_small, rights_small, meet_small, index64_small)
+pub ruleset bounds = (few, root_small, frame_small, named_small, index64_small)

@@ -9,7 +9,7 @@ ghost use Rattle.tables.specs.SizesCode.{Room, SpotFits};
 
 mod ranged;
 
-use paging::Guest;
+use paging::{Guest, Rights};
 pub use ranged::Ranged;
 
 // "G frames", "P processors", "a share of S shadow tables", and the pool base.
@@ -26,7 +26,7 @@ pub struct Sizes {
 pub struct Path {
     pub level: u64,
     pub table: u64,
-    pub rights: u64,
+    pub rights: Rights,
 }
 
 // Where a fill stands: how many tables are still missing below, the shadow table, and the guest frame it shadows.
@@ -109,13 +109,13 @@ pub fn named_by(m: Ranged, e: u64) -> Option<u64>
 
 // Kept: a path off the tables stands on their number, as `down` of specs/State says.
 fn step_down(m: Ranged, w: Path, e: u64) -> Path
-    requires { (1 ≤ w.level) × (w.rights < 8) }
+    requires { 1 ≤ w.level }
     ensures { result ≡ down (machine64 m.sizes) w e }
 {
     Path {
         level: w.level - 1,
         table: named_by(m, e).unwrap_or(table_count(m)),
-        rights: paging::shared_rights(w.rights, paging::rights_of(e)),
+        rights: w.rights.shared(paging::rights_of(e)),
     }
 }
 
@@ -127,7 +127,7 @@ pub fn path_to(pool: &[u64], m: Ranged, p: u64, page: u64, level: u64) -> Path
     let mut w = Path {
         level: 4,
         table: root_of(m, p),
-        rights: 7,
+        rights: Rights::all(),
     };
     for l in (level + 1..=4).rev() {
         let e = paging::entry_at(pool, w.table, paging::index_of(page, l));
@@ -240,9 +240,9 @@ fn leaf_of(map: &[u64], e: u64) -> u64
     requires { (i : ℕ) → get_or map.now i 0 < 2 ^ 40 }
     ensures { result ≡ leaf_of tables64 map.now e }
 {
-    let r = paging::shared_rights(paging::rights_of(e), 6 + paging::d_of(e));
+    let r = paging::rights_of(e).shared(Rights::of(6 + paging::d_of(e)));
     let h = paging::host_of(map, Guest(paging::frame_of(e)));
-    paging::composed(r, r % 2, h.0)
+    paging::composed(r, r.number() % 2, h.0)
 }
 
 // The table that shadow entry h names, if it agrees with guest entry e in rights and in the frame that this table shadows.

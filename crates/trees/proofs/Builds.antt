@@ -14,7 +14,7 @@ use Rattle.paging.specs.Layout.{Layout, bit, index, frame_of, rights_of, compose
 use Rattle.paging.specs.Walk.{meet}
 use Rattle.paging.proofs.Tests.{both}
 use Rattle.paging.proofs.Indices.{index_small}
-use Rattle.paging.proofs.Rights.{rights_small}
+use Rattle.paging.proofs.Meets.{rights_small}
 use Rattle.tables.specs.declared.Path.{Path}
 use Rattle.tables.specs.State.{Machine, Shadow, on_pool, is_free, table_count, home_of, root_of, entry_count, with_entry, named, top, next_entry, descend, path_to}
 use Rattle.tables.specs.Steps.{Settled, leaf_of, settle, hang, build, taken, free_count, empty_share}

@@ -15,7 +15,7 @@ use Rattle.paging.specs.Frame.{guest, host, origin_from}
 use Rattle.paging.specs.Layout.{Layout, bit, frame_of, rights_of, compose, is_present}
 use Rattle.paging.specs.Walk.{meet}
 use Rattle.paging.proofs.Layouts.{composed_present, composed_rights}
-use Rattle.paging.proofs.Rights.{meet_small}
+use Rattle.paging.proofs.Meets.{meet_small}
 use Rattle.tables.specs.State.{Machine, Shadow, on_pool, table_count, entry_count, with_entry, named}
 use Rattle.tables.specs.Steps.{leaf_of}
 use Rattle.lawful.specs.Rules.{is_of, is_made_with, is_leaf}

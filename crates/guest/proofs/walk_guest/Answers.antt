@@ -7,9 +7,8 @@ use Rattle.paging.specs.Walk.{Step}
 use Rattle.paging.specs.declared.Walk.{Walk}
 use Rattle.paging.specs.declared.Stop.{Stop}
 use Rattle.paging.specs.declared.Stop.TheVariants.{Absent, Beyond, Complete}
-use Rattle.paging.specs.Layout.{tables64, get, put, index, rights_of, with_a}
+use Rattle.paging.specs.Layout.{tables64, get, put, index, with_a}
 use Rattle.paging.proofs.Indices.{index_small}
-use Rattle.paging.proofs.Rights.{meet_small}
 use Rattle.paging.proofs.Steps.{Goes, goes, completed}
 use Rattle.guest.specs.GuestWalk.{guest_walk, by_step, walk_from, walk_guest}
 use Rattle.guest.proofs.Walks.{walk_step, walk_end}
@@ -38,10 +37,10 @@ ended c r q =
     let a = c.args in
     let l = c.loop-level in
     walk_step tables64 a.frames a.page l.words l.last l.w l.w.level (l.w.level - 1) (omega (arith, l.invariant.0, c.loop-level-test.true)) (at_entry c) (sym c.step.ensures ∙ q)
-    ∙ l.invariant.5
+    ∙ l.invariant.4
 
 pub entry_at-e-requires : goal.entry_at-e-requires
-entry_at-e-requires c = let l = c.loop-level in (l.invariant.3, omega (arith, c.index_of-i.ensures, index_small tables64 c.args.page (l.level - 1)))
+entry_at-e-requires c = let l = c.loop-level in (l.invariant.2, omega (arith, c.index_of-i.ensures, index_small tables64 c.args.page (l.level - 1)))
 
 -- at a level above 0 a walk is not complete
 pub returns-in_err-next : goal.returns-in_err-next
@@ -56,7 +55,7 @@ returns-in_err-next c =
     stopped c Complete q = absurd (omega (arith, completed tables64 c.args.frames c.loop-level.w c.entry_at-e.result (sym c.step.ensures ∙ q), c.loop-level.invariant.0, c.loop-level-test.true))
 
 pub write_entry-requires : goal.write_entry-requires
-write_entry-requires c = let l = c.loop-level in (l.invariant.3, omega (arith, c.index_of-i.ensures, index_small tables64 c.args.page (l.level - 1)))
+write_entry-requires c = let l = c.loop-level in (l.invariant.2, omega (arith, c.index_of-i.ensures, index_small tables64 c.args.page (l.level - 1)))
 
 pub loop-level-preserved : goal.loop-level-preserved
 loop-level-preserved c =
@@ -70,17 +69,16 @@ loop-level-preserved c =
     let i = c.index_of-i.ensures ∙ ap (index tables64 a.page) (level_is here) in (
       omega (arith, level, l.invariant.0, g.partial),
       omega (arith, level, l.invariant.1),
-      omega (arith, ap (λ (w : Walk). w.rights) g.is, meet_small l.w.rights (rights_of tables64 c.entry_at-e.result)),
       omega (arith, ap (λ (w : Walk). w.frame.0) g.is, g.inside, c.requires.0),
-      c.write_entry.auto.words ∙ l.invariant.4,
+      c.write_entry.auto.words ∙ l.invariant.3,
       ap (λ (x : List ℕ). walk_from tables64 a.frames a.page w'.level x l.w.frame w')
           (c.write_entry.ensures ∙ ap₂ (put tables64 l.words l.w.frame.0) i c.set_accessed.ensures)
           ∙ walk_step tables64 a.frames a.page l.words l.last l.w l.w.level w'.level (omega (arith, level, g.partial)) (at_entry here) (sym c.step.ensures ∙ q)
-          ∙ l.invariant.5,
+          ∙ l.invariant.4,
     )
 
 pub returns : goal.returns
 returns c =
     let a = c.args in
     let l = c.loop-level in
-    walk_end tables64 a.frames a.page l.words l.last l.w l.w.level (omega (arith, l.invariant.0, c.loop-level-test.false, l.auto.level)) ∙ l.invariant.5
+    walk_end tables64 a.frames a.page l.words l.last l.w l.w.level (omega (arith, l.invariant.0, c.loop-level-test.false, l.auto.level)) ∙ l.invariant.4

@@ -8,5 +8,5 @@ use Rattle.guest.proofs.walk_guest.Given as goal
 
 abbrev pub invariant-loop-level : goal.invariant-loop-level
 invariant-loop-level l =
-    (l.w.level + 1 ≡ l.level) × (l.w.level ≤ 4) × (l.w.rights < 8) × (l.w.frame.0 < 2 ^ 40) × (length l.words ≡ length l.initial.words)
+    (l.w.level + 1 ≡ l.level) × (l.w.level ≤ 4) × (l.w.frame.0 < 2 ^ 40) × (length l.words ≡ length l.initial.words)
     × (walk_from tables64 l.frames l.page l.w.level l.words l.last l.w ≡ walk_guest tables64 l.frames l.page l.initial.words l.initial.last)

@@ -1,3 +1,4 @@
+use Prim.Native.Nat.{ℕ}
 use mathlib.Core.Path.{sym, ◌≡◌, ◌∙◌, ap}
 use native.Mathlib.Omega.{arith}
 use Rattle.paging.specs.Layout.{tables64}
@@ -12,7 +13,10 @@ pub loop-rights-preserved : goal.loop-rights-preserved
 loop-rights-preserved c =
     let a = c.args in
     let r = c.loop-rights.rights in
-    c.reread.ensures ∙ ap (reread tables64 a.at.frames a.at.page a.words.now (walk_of a.level a.f r)) c.loop-rights.invariant ∙ sym (each_more _ _ r)
+    let same : c.of.result ≡ r = omega (arith, c.of.ensures) in
+    c.reread.ensures
+    ∙ ap (λ (k : ℕ). reread tables64 a.at.frames a.at.page a.words.now (walk_of a.level a.f k) c.loop-rights.work) same
+    ∙ ap (reread tables64 a.at.frames a.at.page a.words.now (walk_of a.level a.f r)) c.loop-rights.invariant ∙ sym (each_more _ _ r)
 
 pub returns : goal.returns
 unfolding reread_all

@@ -16,7 +16,7 @@ use Rattle.listing.proofs.addresses.Goals.{Joined-serves, then-serves, else-serv
 joined : (c : Joined-serves)
     → (c.if-serves.outcomes.buffer.ghost_name ≡ c.loop-f.outcomes.buffer.ghost_name)
     × (out_of c.if-serves.outcomes.count c.if-serves.outcomes.buffer.now
-    ≡ pushed (serves c.args.frames c.args.q c.args.work.now c.loop-f.f) (Address (guest c.loop-f.f)) (out_of c.loop-f.outcomes.count c.loop-f.outcomes.buffer.now))
+    ≡ pushed (serves c.args.frames c.args.q.now c.args.work.now c.loop-f.f) (Address (guest c.loop-f.f)) (out_of c.loop-f.outcomes.count c.loop-f.outcomes.buffer.now))
 joined c =
     let x = Address (guest c.loop-f.f) in
     let o = out_of c.loop-f.outcomes.count c.loop-f.outcomes.buffer.now in
@@ -40,7 +40,7 @@ loop-f-preserved c =
     let inv = c.loop-f.invariant in
     let e = joined (goal.at.loop-f-preserved c).Joined-serves in
     let o = out_of c.loop-f.outcomes.count c.loop-f.outcomes.buffer.now in
-    let b = serves c.args.frames c.args.q c.args.work.now f in record {
+    let b = serves c.args.frames c.args.q.now c.args.work.now f in record {
       same_reference = e.0 ∙ inv.same_reference;
       few = omega (arith, ap (λ (o : Out). o.count) e.1, pushed_count b (Address (guest f)) o, inv.few);
       size = ap (λ (o : Out). length o.buffer) e.1 ∙ pushed_size b (Address (guest f)) o ∙ inv.size;

@@ -7,7 +7,7 @@ use lib.ListN.{length}
 use Rattle.paging.specs.declared.Request.{Request}
 use Rattle.paging.specs.Frame.{guest}
 use Rattle.paging.specs.Layout.{tables64}
-use Rattle.paging.proofs.Rights.{request_small}
+use Rattle.paging.proofs.Meets.{adds_small}
 use Rattle.held.specs.FollowCode.{restarted}
 use Rattle.listing.specs.ReplayCode.{Replay, replay_of, replayed}
 use Rattle.listing.specs.CollectCode.{collected}
@@ -17,13 +17,10 @@ use Rattle.listing.proofs.answer.Goals as goal
 pub collect-requires : goal.collect-requires
 collect-requires c =
     let a = c.args in
-    let small = request_small a.q.request c.requires.request in
-    let rules = ap (λ (r : Request). r.needs) c.request_of.ensures in
     let adds = ap (λ (r : Request). r.adds) c.request_of.ensures in (
       record { few = c.requires.room.few; whole = c.replay.auto.words ∙ c.requires.room.whole; bytes = omega (arith, c.requires.room.bytes, c.replay.auto.work, c.restart.auto.work) },
       c.requires.some,
-      omega (arith, small.0),
-      omega (arith, small.1),
+      omega (arith, adds, adds_small a.q.request c.requires.request),
       c.requires.pairs,
     )
 

@@ -12,8 +12,8 @@ unfolding lacks
 returns c =
     let a = c.args in
     let part = take (8 * a.frames) a.work.now in
-    let test = λ (p : ℕ × ℕ). eqb p.1 1 && not (enough a.q (p.0 % 8)) in
-    any_numbered test part (8 * a.frames) (lacks_at a.q a.work.now) (omega (arith, length-take {A = ℕ}, c.requires.bytes))
-    (λ k lt. ap (λ (b : ℕ). eqb b 1 && not (enough a.q (k % 8))) (sym (get_or-take (8 * a.frames) a.work.now k 0 lt))) _
+    let test = λ (p : ℕ × ℕ). eqb p.1 1 && not (enough a.q.now (p.0 % 8)) in
+    any_numbered test part (8 * a.frames) (lacks_at a.q.now a.work.now) (omega (arith, length-take {A = ℕ}, c.requires.bytes))
+    (λ k lt. ap (λ (b : ℕ). eqb b 1 && not (enough a.q.now (k % 8))) (sym (get_or-take (8 * a.frames) a.work.now k 0 lt))) _
     (cases_from_any _ _ _ (λ p. test p ≡ true) (λ p. test p ≡ false) c.any.ensures.ran
     (YieldsList-from_enumerate (YieldsList-from_slice part (search rules)) cc) (λ x q k. search (rules, tests)) (λ x q k. search (rules, tests)))

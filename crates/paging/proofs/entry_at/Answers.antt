@@ -1,5 +1,5 @@
 -- The word that is read is the entry of the layout; past the end both are 0.
-use Rattle.std.proofs.Common.{rules, ◌≡◌, get_or}
+use Rattle.std.proofs.Common.{rules}
 use Rattle.paging.specs.Layout.{get}
 use Rattle.paging.proofs.entry_at.Goals as goal
 

@@ -1,6 +1,6 @@
 -- A frame that is not noted is new; another is compared.
-use mathlib.Core.Path.{sym, ap, ◌∙◌, ◌≡◌}
-use mathlib.Core.Bool.{not, true}
+use mathlib.Core.Path.{sym, ap, ◌∙◌}
+use mathlib.Core.Bool.{not}
 use Prim.Native.Nat.{ℕ}
 use lib.ListN.{get_or}
 use borrow.Author.Tests.{ne_eqb}

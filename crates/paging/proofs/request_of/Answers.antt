@@ -1,5 +1,6 @@
 -- One test of all six rows, which antt computes.
-use mathlib.Core.Path.{ap₂}
+use Rattle.std.proofs.lemmas.List.{get_or_default}
+use mathlib.Core.Path.{ap₂, ◌∙◌}
 use mathlib.Core.Bool.{Bool, ◌&&◌}
 use mathlib.Core.List.{List, [], ◌∷◌}
 use Prim.Native.Nat.{ℕ}
@@ -31,4 +32,5 @@ returns c =
     let t = at-below 6 right tt k (search rules) in
     let q = get_or table k (row 0 0) in
     let s = request_of tables64 k in
-    ap₂ row (eqb→eq q.needs s.needs (and_l (eqb q.needs s.needs) _ t)) (eqb→eq q.adds s.adds (and_r (eqb q.needs s.needs) _ t))
+    get_or_default table k c.index-number.result (row 0 0) (search rules)
+    ∙ ap₂ row (eqb→eq q.needs s.needs (and_l (eqb q.needs s.needs) _ t)) (eqb→eq q.adds s.adds (and_r (eqb q.needs s.needs) _ t))

@@ -8,7 +8,7 @@ pub returns : goal.returns
 unfolding serving_slot
 returns c =
     let a = c.args in
-    let serves = slot_serves a.slots.now a.p a.page a.q in
+    let serves = slot_serves a.slots.now a.p a.page a.q.now in
     first_is serves 8 _
     (first_from_Range _ _ _ _ (λ i. serves i ≡ true) (λ i. serves i ≡ false) c.find.ensures.ran
     (λ x q k. search rules)

@@ -23,15 +23,14 @@ loop-l-preserved c =
     let l = ap (λ (x : Path). x.level) e in (
       omega (arith, l),
       grind (arith, bounds),
-      grind (arith, bounds),
-      descend-on M a.pool.now a.page (w.level - a.level) (c.step_down-w.result.level - a.level) w (omega (arith, l)) e ∙ c.loop-l.invariant.3,
+      descend-on M a.pool.now a.page (w.level - a.level) (c.step_down-w.result.level - a.level) w (omega (arith, l)) e ∙ c.loop-l.invariant.2,
     )
 
 pub returns : goal.returns
 returns c =
     let a = c.args in
     let w = c.loop-l.w in
-    descend-end (machine64 a.m.sizes) a.pool.now a.page (w.level - a.level) w (omega arith) ∙ c.loop-l.invariant.3
+    descend-end (machine64 a.m.sizes) a.pool.now a.page (w.level - a.level) w (omega arith) ∙ c.loop-l.invariant.2
 
 pub returns-2 : goal.returns-2
 returns-2 c =
@@ -41,4 +40,4 @@ returns-2 c =
     let e = lower (goal.at.returns-2 c).After-step_down-w in
     let l = ap (λ (x : Path). x.level) e in
     descend-end M a.pool.now a.page 0 _ refl
-    ∙ descend-on M a.pool.now a.page (w.level - a.level) 0 w (omega (arith, l)) e ∙ c.loop-l.invariant.3
+    ∙ descend-on M a.pool.now a.page (w.level - a.level) 0 w (omega (arith, l)) e ∙ c.loop-l.invariant.2

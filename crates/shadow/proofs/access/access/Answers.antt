@@ -1,20 +1,17 @@
 -- The numbers on the way are small; the shadow path answers, or a miss.
 use mathlib.Core.Path.{◌≡◌, refl, sym, ap, ◌∙◌, subst⁻¹}
-use Prim.Native.Nat.{ℕ, ◌<◌, ◌≤◌}
+use Prim.Native.Nat.{ℕ, ◌≤◌}
 use native.Mathlib.Omega.{arith}
 use Rattle.paging.specs.declared.Request.{Request}
 use Rattle.paging.specs.Frame.{host, host_address}
 use Rattle.paging.specs.Layout.{tables64, index}
 use Rattle.paging.proofs.Indices.{index_small}
+use Rattle.paging.proofs.Meets.{adds_small}
 use Rattle.tables.specs.State.{shadow_of, state_of, machine64}
 use Rattle.tables.proofs.Names.{few, root_small, frame_small}
-use Rattle.shadow.proofs.Accesses.{needs_small, adds_small, OnPath, path_range, access_path, access_miss}
+use Rattle.shadow.proofs.Accesses.{OnPath, path_range, access_path, access_miss}
 use Rattle.shadow.proofs.access.access.Goals as goal
 use Rattle.shadow.proofs.access.access.Goals.{After-index_of, After-path_to-w, After-request_of-q}
-
-needs-of : (c : After-request_of-q) → c.request_of-q.result.needs < 8
-needs-of c =
-    omega (arith, ap (λ (q : Request). q.needs) c.request_of-q.ensures, needs_small c.args.request c.requires.request_bound)
 
 adds-of : (c : After-request_of-q) → c.request_of-q.result.adds ≤ 20
 adds-of c =
@@ -30,13 +27,10 @@ index_is : (c : After-index_of) → OnPath (machine64 c.args.m.sizes) 1 c.path_t
 index_is c on = c.index_of.ensures ∙ ap (index tables64 c.page_of-page.result) (sym on.level)
 
 pub serving_slot-requires : goal.serving_slot-requires
-serving_slot-requires c = ((omega (arith, c.requires.ready.owner.own, c.args.m.sized.processors), c.requires.ready.owner.triples), needs-of (goal.at.serving_slot-requires c).After-request_of-q)
+serving_slot-requires c = (omega (arith, c.requires.ready.owner.own, c.args.m.sized.processors), c.requires.ready.owner.triples)
 
 pub entry_at-e-requires : goal.entry_at-e-requires
 entry_at-e-requires c = (omega (arith, (on-path (goal.at.entry_at-e-requires c).After-path_to-w).table, few c.args.m.sized), omega (arith, c.index_of.ensures, index_small tables64 c.page_of-page.result 1))
-
-pub path_serves-requires : goal.path_serves-requires
-path_serves-requires c = ((on-path (goal.at.path_serves-requires c).After-path_to-w).rights, needs-of (goal.at.path_serves-requires c).After-request_of-q)
 
 pub host_address-requires-then-path_serves : goal.host_address-requires-then-path_serves
 host_address-requires-then-path_serves c = omega (arith, c.frame_of.ensures, frame_small c.entry_at-e.result)
@@ -51,7 +45,7 @@ returns-then-path_serves c =
     (c.host_address-then-path_serves.ensures ∙ ap (λ (f : ℕ). host_address (host f) a.a) c.frame_of.ensures)
 
 pub miss-requires : goal.miss-requires
-miss-requires c = record { ready = c.requires.ready; needs_bound = (needs-of (goal.at.miss-requires c).After-request_of-q, adds-of (goal.at.miss-requires c).After-request_of-q) }
+miss-requires c = record { ready = c.requires.ready; adds_bound = adds-of (goal.at.miss-requires c).After-request_of-q }
 
 pub returns : goal.returns
 returns c =

@@ -4,7 +4,6 @@ use Prim.Native.Nat.{◌-◌}
 use native.Mathlib.Omega.{arith}
 use Rattle.paging.specs.Layout.{tables64}
 use Rattle.paging.proofs.Indices.{index_small}
-use Rattle.paging.proofs.Rights.{rights_small, meet_small}
 use Rattle.tables.specs.State.{machine64}
 use Rattle.tables.proofs.Names.{few}
 use Rattle.slots.specs.declared.Slot.{Slot}
@@ -22,9 +21,6 @@ entry_at-e-requires c =
       omega (arith, c.index_of.ensures, index_small tables64 s.result.page (s.result.mark - 1)),
     )
 
-pub shared_rights-rights-requires : goal.shared_rights-rights-requires
-shared_rights-rights-requires c = (omega (arith, ap (λ (x : Slot). x.rights) c.slot_of-slot.ensures), omega (arith, c.rights_of.ensures, rights_small tables64 c.entry_at-e.result))
-
 pub set_slot-requires : goal.set_slot-requires
 set_slot-requires c =
     let a = c.args in
@@ -33,5 +29,4 @@ set_slot-requires c =
       (omega (arith, c.args.m.sized.processors, c.requires.owner.own), c.requires.owner.triples),
       c.requires.slot,
       omega (arith, small, c.requires.guests, few c.args.m.sized),
-      omega (arith, c.shared_rights-rights.ensures, meet_small s.rights c.rights_of.result),
     )

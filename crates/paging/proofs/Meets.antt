@@ -57,10 +57,7 @@ pub needs_small : (Y : Layout) (n : ℕ) → n < 6 → (request_of Y n).needs < 
 unfolding request_of
 needs_small Y n h = ltb→lt _ 8 (at-below 6 (λ n. ltb (request_of Y n).needs 8) tt n h)
 
--- what a request needs and adds is small
-pub request_small : (n : ℕ) → n < 6 → ((request_of tables64 n).needs < 8) × ((request_of tables64 n).adds ≤ 20)
+-- what a request adds is small
+pub adds_small : (n : ℕ) → n < 6 → (request_of tables64 n).adds ≤ 20
 unfolding request_of
-request_small n h = (
-  ltb→lt _ 8 (at-below 6 (λ n. ltb (request_of tables64 n).needs 8) tt n h),
-  leb→le _ 20 (at-below 6 (λ n. leb (request_of tables64 n).adds 20) tt n h),
-)
+adds_small n h = leb→le _ 20 (at-below 6 (λ n. leb (request_of tables64 n).adds 20) tt n h)
