@@ -1,4 +1,3 @@
-pub mod Places
 pub mod Tests
 pub mod Numbers
 pub mod Loops

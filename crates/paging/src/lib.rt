@@ -2,7 +2,7 @@
 // Every shift and mask of the project stands here. Callers speak of indices, frames, rights and steps.
 #![tactic(auto)]
 
-ghost use Rattle.std.specs.Prelude.{◌%◌, ◌≡◌, eqb, ltb, ◌<◌, ◌≤◌, ◌^◌, length, replicate};
+ghost use Rattle.std.specs.Prelude.{◌%◌, ◌≡◌, eqb, ltb, ◌<◌, ◌≤◌, ◌^◌, length};
 ghost use Rattle.std.specs.List.{list_all, position};
 ghost use Rattle.paging.specs.Numbers.{is_between};
 ghost use Rattle.paging.specs.NotesCode.{noted_at, Noted};
@@ -213,19 +213,6 @@ pub fn write_entry(words: &mut [u64], f: u64, i: usize, e: u64)
     if at < words.len() {
         words[at] = e;
     }
-}
-
-pub fn zero(buffer: &mut [u64])
-    ensures { buffer.new ≡ replicate (length buffer.old) 0 }
-{
-    buffer.fill(0);
-}
-
-pub fn copy(words: &mut [u64], start: &[u64])
-    requires { length words.old ≡ length start.now }
-    ensures { words.new ≡ start.now }
-{
-    words.copy_from_slice(start);
 }
 
 // ---- frames

@@ -167,8 +167,8 @@ impl Lists<'_> {
         ensures { AllPut RunOf (lists_of self.now) printer.old printer.new }
     {
         let mut buffer = [0u64; sections::WORDS_SIZE];
-        let words = &mut buffer[..self.words.len()];
-        words.copy_from_slice(self.words);
+        let stored = &mut buffer[..self.words.len()];
+        stored.copy_from_slice(self.words);
         let mut pool = [0u64; POOL];
         let mut records = [0u64; RECORDS];
         let mut slots = [0u64; SLOTS];
@@ -181,7 +181,7 @@ impl Lists<'_> {
                 share: 4,
                 base: 1 << 20,
             },
-            words,
+            words: stored,
             pool: &mut pool[..SHARE_WORDS * p],
             records: &mut records[..SHARE_RECORDS * p],
             slots: &mut slots[..SHARE_SLOTS * p],
