@@ -68,10 +68,6 @@ value_cases : (t : Bool) (d k : Digits) → Some d ≡ cond t (Some k) None → 
 value_cases true d k q = (refl, cc)
 value_cases false d k q = cc
 
-big_cases : (t : Bool) (k : Digits) → None ≡ cond t (Some k) None → t ≡ false
-big_cases true k q = cc
-big_cases false k q = refl
-
 module _ (s : List ℕ) (from : ℕ) where
   pub value_told : {d : Digits} → Some d ≡ digits_at s from
       → (ltb (value_of (run (drop from s))) (2 ^ 64) ≡ true) × (value_of (run (drop from s)) ≡ d.value) × (from + length (run (drop from s)) ≡ d.end)
