@@ -31,15 +31,6 @@ unfolding all
 all_list f [] = refl
 all_list f (x ∷ xs) = ap (λ (b : Bool). f x && b) (all_list f xs) ∙ sym (all_first (λ i. f (get_or (x ∷ xs) i 0)) (length xs))
 
-some_all : (f : ℕ → Bool) (n : ℕ) → not (some n f) ≡ all n (λ i. not (f i))
-unfolding all some
-some_all f zero = refl
-some_all f (suc n) = go (some n f) (f n) ∙ ap (λ (b : Bool). b && not (f n)) (some_all f n)
-  where
-    go : (a b : Bool) → not (a || b) ≡ (not a && not b)
-    go true b = refl
-    go false b = refl
-
 any_all : (f : ℕ → Bool) (xs : List ℕ) → not (list_any f xs) ≡ list_all (λ x. not (f x)) xs
 any_all f [] = refl
 any_all f (x ∷ xs) = go (f x) (list_any f xs) ∙ ap (λ (b : Bool). not (f x) && b) (any_all f xs)
@@ -50,15 +41,6 @@ any_all f (x ∷ xs) = go (f x) (list_any f xs) ∙ ap (λ (b : Bool). not (f x)
 
 pub none_list : (f : ℕ → Bool) (xs : List ℕ) → not (list_any f xs) ≡ all (length xs) (λ i. not (f (get_or xs i 0)))
 none_list f xs = any_all f xs ∙ all_list (λ x. not (f x)) xs
-
-pub any_list : (f : ℕ → Bool) (xs : List ℕ) → list_any f xs ≡ some (length xs) (λ i. f (get_or xs i 0))
-any_list f xs = turn _ _ (none_list f xs ∙ sym (some_all (λ i. f (get_or xs i 0)) (length xs)))
-  where
-    turn : (a b : Bool) → not a ≡ not b → a ≡ b
-    turn true true e = refl
-    turn true false e = sym e
-    turn false true e = sym e
-    turn false false e = refl
 
 origin_found : (k : ℕ) (map : List ℕ) (h : Host) → option_map guest (position_from (λ f. eqb f h.0) k map) ≡ origin_from k map h
 unfolding origin_from

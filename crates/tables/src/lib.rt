@@ -4,7 +4,7 @@
 ghost use Rattle.std.specs.Prelude.{◌≡◌, ℕ, ◌+◌, ◌-◌, ◌*◌, ◌^◌, ◌<◌, ◌≤◌, length, get_or};
 ghost use Rattle.paging.specs.Layout.{tables64, frame_words};
 ghost use Rattle.tables.specs.State.{machine64, shadow_of, record_size, level_of, shadows, with_record, table_count, home_of, owner_of, root_of, named_some, down, path_to};
-ghost use Rattle.tables.specs.Steps.{free_table, cut, zeroed, empty_own, empty_share, may_take, free_count, taken, taken_some, hang, hang_next, leaf_of, agreeing, settle, settled_at, build};
+ghost use Rattle.tables.specs.Steps.{free_table, cut, zeroed, empty_own, empty_share, may_take, free_count, taken, taken_some, hang_next, leaf_of, agreeing, settle, settled_at, build};
 ghost use Rattle.tables.specs.SizesCode.{Room, SpotFits};
 
 mod ranged;
