@@ -1,6 +1,6 @@
 -- What the functions of this crate do to the bytes, each in the form of its code. Nobody has to believe these: proofs/
 -- shows that they mark exactly the held walks.
-use Rattle.std.specs.Prelude.{◌≡◌, Bool, cond, List, ℕ, zero, suc, ◌+◌, ◌-◌, ◌*◌, ◌/◌, ◌≤◌, eqb, length, get_or, set, take, drop, replicate, ◌++◌, Ok, Err}
+use Rattle.std.specs.Prelude.{◌≡◌, Bool, cond, List, ℕ, zero, suc, ◌+◌, ◌-◌, ◌*◌, ◌/◌, ◌≤◌, eqb, length, get_or, set, Ok, Err}
 use Rattle.paging.specs.declared.Guest.{Guest}
 use Rattle.paging.specs.declared.Walk.{Walk}
 use Rattle.paging.specs.declared.Stop.TheVariants.{Absent, Beyond, Complete}
@@ -31,7 +31,8 @@ onward f (Err Complete) work = work
 
 -- n bytes from k on become 0
 unfoldable pub cleared : ℕ → ℕ → List ℕ → List ℕ
-cleared k n work = take k work ++ (replicate n 0 ++ drop (k + n) work)
+cleared k zero work = work
+cleared k (suc n) work = cleared (k + 1) n (set work k 0)
 
 module _ (Y : Layout) (G page : ℕ) (words : List ℕ) where
   -- what a walk does with these words

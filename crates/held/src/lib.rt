@@ -12,7 +12,8 @@ use paging::{Guest, Rights, Step, Walk};
 
 const WORDS: u64 = paging::FRAME_WORDS as u64;
 
-// The page that is asked about, in a guest of so many frames.
+// The page that is asked about, in a guest of so many frames. Kept, below: words and work stay slices under `Room`; in a struct of
+// a `&mut` every contract would have to add that reference and length stay.
 #[derive(Clone, Copy)]
 pub struct AskedPage {
     pub frames: u64,

@@ -23,7 +23,7 @@ use Rattle.held.proofs.Tracks.{Told, Tracks}
 use Rattle.std.specs.Prelude.{Result, Ok, Err}
 use Rattle.rules.specs.declared.Refusal.{Refusal}
 use Rattle.rules.specs.Refusal.{number_of, refusal_of}
-use Rattle.rules.proofs.Refusals.{some_number}
+use Rattle.rules.proofs.Refusals.{some_number, same_refusal}
 use Rattle.listing.specs.Call.{Asked, Lent, lent, setup_asked, pairs, count_of, Lists}
 use Rattle.rules.specs.Numbers.{events_of}
 use Rattle.listing.specs.CollectCode.{Out, out_of, walk_at, collected}
@@ -89,10 +89,6 @@ module _ (q : Asked) (b : Lent) (ok : Accepted q b) where
 
 -- ---- one result
 
--- each refusal has a number of its own
-same_number : (t u : Refusal) → number_of t ≡ number_of u → t ≡ u
-same_number t u e = grind arith
-
 -- two buffers that say which walks are held are equal
 same_bytes : (G : ℕ) → 0 < G → (P : Walk → Type 0) (before x y : List ℕ) → WorkTells G P before x → WorkTells G P before y → x ≡ y
 same_bytes G some P before x y a b = ext_get_or 0 x y (a.size ∙ sym b.size) (λ k h. go k (dec_lt k (work_bytes G)))
@@ -115,7 +111,7 @@ module _ (q : Asked) (b : Lent) where
   same_answer (Ok m) (Ok n) x y = ap Ok y
   same_answer (Ok m) (Err t) x y = absurd (omega (arith, some_number t))
   same_answer (Err t) (Ok n) x y = absurd (omega (arith, some_number t))
-  same_answer (Err t) (Err u) x y = ap Err (same_number t u x)
+  same_answer (Err t) (Err u) x y = ap Err (same_refusal t u x)
 
   pub same_lists : 0 < length q.map → (x y : Lent) (m n : ℕ) → Lists q b x m → Lists q b y n → (x ≡ y) × (m ≡ n) × (0 < m)
   same_lists some x y m n c d =

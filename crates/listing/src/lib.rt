@@ -156,7 +156,7 @@ fn find_faults(words: &[u64], work: &[u8], at: AskedPage) -> Faults
     faults
 }
 
-// The outcomes that were written so far, and the buffer that they stand in.
+// The outcomes that were written so far, and the buffer that they stand in. Kept: a buffer and a count, since C lends the buffer.
 #[derive(Drop)]
 struct Outcomes<'a> {
     buffer: &'a mut [u64],
@@ -205,13 +205,13 @@ fn collect(words: &[u64], work: &[u8], buffer: &mut [u64], at: AskedPage, q: Req
     addresses(work, &mut outcomes, at.frames, &q);
     let faults = find_faults(words, work, at);
     if faults.absent {
-        outcomes.push(Outcome::Fault(q.adds));
+        outcomes.push(Outcome::Fault(Stop::Absent.base_code() + q.adds));
     }
     if lacks(work, at.frames, &q) {
-        outcomes.push(Outcome::Fault(1 + q.adds));
+        outcomes.push(Outcome::Fault(Stop::Complete.base_code() + q.adds));
     }
     if faults.beyond {
-        outcomes.push(Outcome::Fault(9 + q.adds));
+        outcomes.push(Outcome::Fault(Stop::Beyond.base_code() + q.adds));
     }
     outcomes.count
 }

@@ -2,7 +2,7 @@
 // Every shift and mask of the project stands here. Callers speak of indices, frames, rights and steps.
 #![tactic(auto)]
 
-ghost use Rattle.std.specs.Prelude.{◌%◌, ◌≡◌, eqb, ltb, ◌<◌, ◌≤◌, ◌^◌, length};
+ghost use Rattle.std.specs.Prelude.{◌%◌, ◌≡◌, eqb, ltb, ◌<◌, ◌≤◌, ◌^◌, length, replicate};
 ghost use Rattle.std.specs.List.{list_all, position};
 ghost use Rattle.paging.specs.Numbers.{is_between};
 ghost use Rattle.paging.specs.NotesCode.{noted_at, Noted};
@@ -50,6 +50,7 @@ impl Rights {
         Rights(7)
     }
 
+    // Kept: no From, since its clauses say too that the number is small.
     pub fn number(self) -> u64
         ensures number { result ≡ self }
         ensures small { result < 8 }
@@ -118,6 +119,7 @@ const INDEX_BITS: u64 = 9;
 
 const INDEX_MASK: u64 = (1 << INDEX_BITS) - 1;
 
+// Kept: the level is a number with its bounds, since it counts down to 0, where a walk is complete.
 pub fn index_of(page: u64, level: u64) -> usize
     requires { (1 ≤ level) × (level ≤ 4) }
     ensures { result ≡ index tables64 page level }
@@ -197,6 +199,7 @@ pub fn set_dirty(e: u64) -> u64
 pub const FRAME_WORDS: usize = 512;
 
 // Entry i of frame or table f; past the end it is absent.
+// Kept: the frame is bounded at each call: a record's or an entry's frame is any number until it is judged.
 pub fn entry_at(words: &[u64], f: u64, i: usize) -> u64
     requires { (f < 2 ^ 40) × (i < frame_words) }
     ensures { result ≡ get tables64 words.now f i }
@@ -213,6 +216,21 @@ pub fn write_entry(words: &mut [u64], f: u64, i: usize, e: u64)
     if at < words.len() {
         words[at] = e;
     }
+}
+
+// Kept: these two are std's `fill` and `copy_from_slice` under names of the project's own, which the must-fail edits ones_for_zeros and
+// copies_nothing speak of.
+pub fn zero(buffer: &mut [u64])
+    ensures { buffer.new ≡ replicate (length buffer.old) 0 }
+{
+    buffer.fill(0);
+}
+
+pub fn copy(words: &mut [u64], start: &[u64])
+    requires { length words.old ≡ length start.now }
+    ensures { words.new ≡ start.now }
+{
+    words.copy_from_slice(start);
 }
 
 // ---- frames
@@ -253,12 +271,14 @@ pub fn origin_of(map: &[u64], h: Host) -> Option<Guest>
 
 // ---- numbers that fit
 
+// Kept: std's `contains` under the name that specs/Numbers gives the fact, which six tests of numbers cite.
 pub fn is_between(lo: u64, hi: u64, x: u64) -> bool
     ensures { result ≡ is_between lo hi x }
 {
     (lo..=hi).contains(&x)
 }
 
+// None of the first n frames is f. Kept: n beside the map, as `is_new map n f` of specs/Frame has it.
 pub fn is_new(map: &[u64], n: usize, f: u64) -> bool
     requires { n ≤ length map.now }
     ensures { result ≡ is_new map.now n f }
@@ -323,7 +343,8 @@ pub enum Stop {
 }
 
 impl Stop {
-    // The base code of the fault that a walk gives which stops so; one that is complete lacks a right.
+    // The base code of the fault that a walk gives which stops so; one that is complete lacks a right. Kept: no From, since a code is
+    // not the stop as a number.
     pub fn base_code(self) -> u64
         ensures { result ≡ base_of self }
     {

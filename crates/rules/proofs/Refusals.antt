@@ -41,6 +41,10 @@ some_number NoNumber = omega arith
 some_number OutOfRange = omega arith
 some_number TooFewTables = omega arith
 
+-- each refusal has a number of its own
+pub same_refusal : (r s : Refusal) → number_of r ≡ number_of s → r ≡ s
+same_refusal r s e = grind arith
+
 -- of two tests, one after the other: the first refuses, or it passes and the second decides
 pub first_refuses : (r : Refusal) (fits : Bool) (m rest : ℕ) → number_of r ≡ cond fits 0 m → number_of r ≡ cond fits rest m
 first_refuses r true m rest e = absurd (omega (arith, some_number r))

@@ -18,6 +18,7 @@ pub struct Event {
     pub b: u64,
 }
 
+// Kept: numbers, as C and texts give them, so that a request of 6 or more can be refused.
 #[derive(Clone, Copy)]
 pub struct Question {
     pub proc: u64,
@@ -33,7 +34,7 @@ pub enum Outcome {
     Fault(u64),
 }
 
-// Event k of a list, "four numbers each".
+// Event k of a list, "four numbers each". Kept: k beside the list, as `event_of` of specs/Numbers reads it.
 pub fn event_at(events: &[u64], k: usize) -> Event
     requires { 4 * k + 3 < length events.now }
     ensures { result ≡ event_of events.now k }
@@ -122,7 +123,8 @@ pub fn unless(fits: bool, refusal: Refusal) -> Result<(), Refusal>
     if fits { Ok(()) } else { Err(refusal) }
 }
 
-// Whether an event fits; else the lowest number under which it is refused.
+// Whether an event fits; else the lowest number under which it is refused. Kept: the bound on the frames, which only the product
+// with a frame's words asks for.
 pub fn test_event(frames: u64, processors: u64, e: Event) -> Result<(), Refusal>
     requires { frames ≤ 256 }
     ensures { (words cr3s : List ℕ) → refusal_of result ≡ event_refusal (setup64 frames processors words cr3s) e }
