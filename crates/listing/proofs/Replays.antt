@@ -103,13 +103,13 @@ module _ (G P : ℕ) (ws cs : List ℕ) (es : List Event) (p page : ℕ) where
     restart_size : (n from : ℕ) (g : Guest) (work : List ℕ) → from ≤ work_bytes G → work_bytes G ≤ length work → g.0 < G
         → length (restarted tables64 G page (words_at U es n) from g work) ≡ length work
     restart_size n from g work le r h =
-        (restart_grows tables64 seen G page (words_at U es) (told fit hp) work r g n from le (root_byte g h)).size ∙ cleared_size from (work_bytes G - from) work (omega arith)
+        (restart_grows tables64 seen G page (words_at U es) (told fit hp) work r g n from le (root_byte g h)).size ∙ cleared_size from (work_bytes G - from) work
 
     restart_rest : (n from : ℕ) (g : Guest) (work : List ℕ) → from ≤ work_bytes G → work_bytes G ≤ length work → g.0 < G
         → (k : ℕ) → work_bytes G ≤ k → get_or (restarted tables64 G page (words_at U es n) from g work) k 0 ≡ get_or work k 0
     restart_rest n from g work le r h k hk =
         (restart_grows tables64 seen G page (words_at U es) (told fit hp) work r g n from le (root_byte g h)).rest k hk
-        ∙ cleared_above from (work_bytes G - from) work (omega arith) k (omega arith)
+        ∙ cleared_above from (work_bytes G - from) k work (omega arith)
 
     pub started : Follows work₀ 0 (replay_of (get_or cs p 0) ws (restarted tables64 G page ws 0 (guest (get_or cs p 0)) work₀))
     unfolding words_at cr3_at

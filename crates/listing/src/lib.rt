@@ -196,7 +196,8 @@ fn addresses(work: &[u8], outcomes: &mut Outcomes, frames: u64, q: &Request)
     }
 }
 
-// Addresses by rising frame, then faults by rising code; the result is the count.
+// Addresses by rising frame, then faults by rising code; the result is the count. Kept: the base codes 0, 1 and 9 as `given` of rules'
+// specs/Outcome writes them (tried: Stop's base_code; the proofs of the three joins then no longer compute).
 fn collect(words: &[u64], work: &[u8], buffer: &mut [u64], at: AskedPage, q: Request) -> u64
     requires { Room at.frames words.now work.now × (0 < at.frames) × (q.adds ≤ 20) × (2 * (at.frames + 3) ≤ length buffer.old) }
     ensures { out_of result buffer.new ≡ collected at.frames at.page q words.now work.now buffer.old }
@@ -205,13 +206,13 @@ fn collect(words: &[u64], work: &[u8], buffer: &mut [u64], at: AskedPage, q: Req
     addresses(work, &mut outcomes, at.frames, &q);
     let faults = find_faults(words, work, at);
     if faults.absent {
-        outcomes.push(Outcome::Fault(Stop::Absent.base_code() + q.adds));
+        outcomes.push(Outcome::Fault(q.adds));
     }
     if lacks(work, at.frames, &q) {
-        outcomes.push(Outcome::Fault(Stop::Complete.base_code() + q.adds));
+        outcomes.push(Outcome::Fault(1 + q.adds));
     }
     if faults.beyond {
-        outcomes.push(Outcome::Fault(Stop::Beyond.base_code() + q.adds));
+        outcomes.push(Outcome::Fault(9 + q.adds));
     }
     outcomes.count
 }
