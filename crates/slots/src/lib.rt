@@ -7,7 +7,7 @@ ghost use Rattle.slots.specs.Slots.{slot_count, HasSlots, slot_at, slot_of, with
 use paging::{Request, Rights};
 
 // What a slot says: its mark (0 empty, 1 complete, level + 1 partial), its page, and the place and rights of its walk.
-// Kept: the mark is a number of the C interface's buffer, and specs/ asks for it as one; a match names its kinds.
+// Kept: the mark is a number of the buffer that C lends, and slot_right of lawful's specs/Rules judges marks above 5 too.
 #[derive(Clone, Copy)]
 pub struct Slot {
     pub mark: u64,
@@ -22,6 +22,9 @@ pub const SLOTS: u64 = 8;
 const SLOT_SIZE: u64 = 3;
 
 pub const SLOTS_SIZE: u64 = SLOTS * SLOT_SIZE;
+
+// Kept: the whole list with p and k, as with_slot, flush and slot_right of specs/ take them; a struct of a &mut adds to
+// every contract that reference and length stay. k is a number below 8 that the loops count.
 
 // Where slot k of p stands: its mark, its page, and its place and rights.
 pub fn slot_at(p: u64, k: u64) -> usize
@@ -118,7 +121,7 @@ pub fn empty_slots(slots: &mut [u64], p: u64)
     requires { HasSlots p slots.old }
     ensures { slots.new ≡ empty_slots p slots.old }
 {
-    for k in 0..SLOTS {
-        empty_slot(slots, p, k);
+    for slot in 0..SLOTS {
+        empty_slot(slots, p, slot);
     }
 }
