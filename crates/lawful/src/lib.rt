@@ -151,6 +151,7 @@ impl<'a> Known<'a> {
         requires tallied { Tallied self.now.m.sizes self.now.pool.now counts.old t }
         ensures { Tallied self.now.m.sizes self.now.pool.now counts.new (t + 1) }
     {
+        // Kept: by number, since what the pool lacks is absent (entry_at), and is_lawful asks nothing of its length.
         for i in 0..paging::FRAME_WORDS {
             if let Some(u) = tables::named_by(self.m, paging::entry_at(self.pool, t, i)) {
                 counts[u as usize] += 1;
@@ -197,6 +198,8 @@ impl<'a> Known<'a> {
         if level == 0 {
             return true;
         }
+        // Kept: by number, as in tally_table. False is returned by hand, where entries_right uses `all`: this function is in
+        // a cycle of calls, and a closure that calls back is none of its measure.
         for i in 0..paging::FRAME_WORDS {
             if !self.entry_whole(paging::entry_at(self.pool, t, i), level) {
                 return false;

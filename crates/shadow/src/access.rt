@@ -10,7 +10,7 @@ ghost use Rattle.shadow.specs.ReadyCode.{Ready};
 
 use crate::{Answer, fill};
 use guest::Walked;
-use paging::{Guest, Host, Request};
+use paging::{Guest, Host, Request, Stop};
 use tables::{Path, Ranged};
 
 // Neither slot nor shadow answers: the guest's tables are walked.
@@ -35,7 +35,7 @@ fn miss(
         Err(stop) => Answer::Fault(stop.base_code() + q.adds),
         Ok(Walked { last, walk }) => {
             if !paging::has_enough(q, walk.rights) {
-                return Answer::Fault(1 + q.adds);
+                return Answer::Fault(Stop::Complete.base_code() + q.adds);
             }
             guest::set_d(words, q, page, last);
             fill::fill(map, words, pool, records, slots, m, p, page);

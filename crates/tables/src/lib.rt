@@ -21,7 +21,10 @@ pub struct Sizes {
     pub base: u64,
 }
 
+// In a Path and a Spot, tables are numbers into two buffers that C lends, so no boxes.
+
 // Where a path through the shadow tables stands: the level of its next entry, the table, the rights of all entries passed.
+// Walk's twin on purpose: a table is no guest frame, and `down` and `path_to` of specs/State speak of a Path.
 #[derive(Clone, Copy)]
 pub struct Path {
     pub level: u64,
@@ -41,6 +44,8 @@ pub struct Spot {
 pub const RECORD: usize = 2;
 
 // ---- records and owners
+
+// Level and frame are two numbers of one record; each is asked for alone.
 
 pub fn level_of(records: &[u64], t: u64) -> u64
     requires { t ≤ 64 }
@@ -86,6 +91,7 @@ pub fn owner_of(records: &[u64], m: Ranged, t: u64) -> u64
     home_of(m, t)
 }
 
+// Kept: p and t are bare numbers here and below: what bounds them (the sizes) is another argument, so no type can say it.
 pub fn root_of(m: Ranged, p: u64) -> u64
     requires { p < m.sizes.processors }
     ensures { result ≡ root_of (machine64 m.sizes) p }
@@ -138,9 +144,9 @@ pub fn path_to(pool: &[u64], m: Ranged, p: u64, page: u64, level: u64) -> Path
 
 // ---- freeing
 
-// Kept: pool and records stay two slices. In one struct of two `&mut` every contract had to add that both references, both lengths and the sizes stay.
-
 // Frees table t of the given level, and every table below it.
+// Kept: pool and records stay two slices, here and below. In one struct of two `&mut` every contract had to add that both
+// references, both lengths and the sizes stay.
 #[cycle(free_table_cut_entry)]
 fn free_table(pool: &mut [u64], records: &mut [u64], m: Ranged, t: u64, level: u64)
     requires room { Room m.sizes records.old }
@@ -150,6 +156,7 @@ fn free_table(pool: &mut [u64], records: &mut [u64], m: Ranged, t: u64, level: u
     if level == 0 {
         return;
     }
+    // By number: each turn changes the pool.
     for i in 0..paging::FRAME_WORDS {
         cut_entry(pool, records, m, level - 1, t, i);
     }
@@ -216,13 +223,9 @@ fn may_take(records: &[u64], m: Ranged, p: u64, t: u64) -> bool
 pub fn count_free(records: &[u64], m: Ranged, p: u64) -> u64
     ensures { result ≡ free_count (machine64 m.sizes) p records.now }
 {
-    let mut free = 0;
-    for t in 0..table_count(m) {
-        if may_take(records, m, p, t) {
-            free += 1;
-        }
-    }
-    free
+    (0..table_count(m))
+        .filter(|t| may_take(records, m, p, *t))
+        .count() as u64
 }
 
 // The table that p takes next: the lowest that it may take, if there is one.

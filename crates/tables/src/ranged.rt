@@ -13,6 +13,7 @@ pub struct Ranged {
 
 impl Ranged {
     // The sizes, if they are in range. The pool's end is found without a sum that may wrap.
+    // An Option, since out of range is no refusal of its own.
     pub fn of(sizes: Sizes) -> Option<Ranged>
         ensures { MatchOption result (¬ Sized sizes) (λ m. m.sizes ≡ sizes) }
     {
