@@ -199,7 +199,7 @@ impl<'a> Known<'a> {
             return true;
         }
         // Kept: by number, as in tally_table. False is returned by hand, where entries_right uses `all`: this function is in
-        // a cycle of calls, and a closure that calls back is none of its measure.
+        // a cycle of calls, which a closure would join with a measure of its own.
         for i in 0..paging::FRAME_WORDS {
             if !self.entry_whole(paging::entry_at(self.pool, t, i), level) {
                 return false;

@@ -32,6 +32,7 @@ pub enum Answer {
     NoStep,
 }
 
+// Kept, here and in kind_of and value_of: public functions of their own, whose numbers are the C interface's answer.
 pub fn refusal_of(a: Result<Answer, Refusal>) -> u64
     ensures { result ≡ refusal_of (by_number a) }
 {
@@ -64,7 +65,9 @@ pub fn value_of(a: Result<Answer, Refusal>) -> u64
 
 // ---- the event call
 
-// Kept: the buffers as parameters (tried: a struct of borrows with methods; of a buffer that a method passes on as &, a proof then knows the length alone).
+// What an event does that was accepted. Its kind comes beside e, which keeps the number: the contract speaks of e's alone.
+// Kept: the buffers as parameters, here and in access, fill and events (tried: a struct of borrows with methods; of a
+// buffer that a method passes on as &, a proof then knows the length alone).
 #[tactic(auto, unfolding(crate::specs::After::moved))]
 fn take_step(
     map: &[u64],
@@ -138,9 +141,9 @@ pub fn setup(
     ensures { replies (by_number result) (state_of [] (shadow_of pool.new records.new) slots.new) ≡ after_setup (machine64 z) map.now cr3s.now (state_of [] (shadow_of pool.old records.old) slots.old) }
 {
     let m = refusals::test_setup(map, cr3s, pool, records, slots, z)?;
-    pool.fill(0);
-    records.fill(0);
-    slots.fill(0);
+    paging::zero(pool);
+    paging::zero(records);
+    paging::zero(slots);
     set_roots(cr3s, records, m);
     Ok(Answer::Done)
 }

@@ -23,9 +23,6 @@ const SLOT_SIZE: u64 = 3;
 
 pub const SLOTS_SIZE: u64 = SLOTS * SLOT_SIZE;
 
-// Kept: the whole list with p and k, as with_slot, flush and slot_right of specs/ take them; a struct of a &mut adds to
-// every contract that reference and length stay. k is a number below 8 that the loops count.
-
 // Where slot k of p stands: its mark, its page, and its place and rights.
 pub fn slot_at(p: u64, k: u64) -> usize
     requires { (p < 4) × (k < slot_count) }
@@ -34,6 +31,9 @@ pub fn slot_at(p: u64, k: u64) -> usize
     (SLOTS_SIZE * p + SLOT_SIZE * k) as usize
 }
 
+// What slot k of p says; k is a number below 8 that the loops count.
+// Kept, here and below: the whole list with p and k, as with_slot, flush and slot_right of specs/ take them; a struct of a
+// &mut adds to every contract that reference and length stay.
 pub fn slot_of(slots: &[u64], p: u64, k: u64) -> Slot
     requires { HasSlots p slots.now × (k < slot_count) }
     ensures { result ≡ slot_of slots.now p k }

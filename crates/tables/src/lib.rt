@@ -21,10 +21,9 @@ pub struct Sizes {
     pub base: u64,
 }
 
-// In a Path and a Spot, tables are numbers into two buffers that C lends, so no boxes.
-
 // Where a path through the shadow tables stands: the level of its next entry, the table, the rights of all entries passed.
-// Walk's twin on purpose: a table is no guest frame, and `down` and `path_to` of specs/State speak of a Path.
+// Walk's twin on purpose: a table is no guest frame, and `down` and `path_to` of specs/State speak of a Path. Here
+// and in Spot, tables are numbers into two buffers that C lends, so no boxes.
 #[derive(Clone, Copy)]
 pub struct Path {
     pub level: u64,
@@ -45,8 +44,7 @@ pub const RECORD: usize = 2;
 
 // ---- records and owners
 
-// Level and frame are two numbers of one record; each is asked for alone.
-
+// Here and in shadowed_by: two numbers of one record, each asked for alone.
 pub fn level_of(records: &[u64], t: u64) -> u64
     requires { t ≤ 64 }
     ensures { result ≡ level_of records.now t }

@@ -1,7 +1,8 @@
 -- A setup that is accepted zeroes the buffers and sets the roots.
 use mathlib.Core.Path.{sym, ap, ◌∙◌}
-use mathlib.Core.List.{[]}
-use Prim.Native.Nat.{◌*◌}
+use mathlib.Core.List.{List, []}
+use Prim.Native.Nat.{ℕ, ◌*◌}
+use lib.ListN.{length, length-replicate}
 use Rattle.std.proofs.Common.{rules}
 use Rattle.tables.specs.declared.Sizes.{Sizes}
 use Rattle.tables.specs.State.{shadow_of, state_of, machine64, record_size, table_count}
@@ -17,7 +18,7 @@ set_roots-requires c =
     let x = setup_exact (machine64 a.z) a.map.now a.cr3s.now s h.0 h.1 in
     let same = sym c.in_ok-m.ensures.same in
     record {
-      room = c.fill-2.ensures.len ∙ x.pairs ∙ ap (λ (z : Sizes). record_size * table_count (machine64 z)) same;
+      room = ap (λ (l : List ℕ). length l) c.zero-2.ensures ∙ length-replicate _ _ ∙ x.pairs ∙ ap (λ (z : Sizes). record_size * table_count (machine64 z)) same;
       cr3s_len = setup_cr3s (machine64 a.z) a.map.now a.cr3s.now s h.0 h.1 ∙ ap (λ (z : Sizes). z.processors) same;
     }
 
@@ -26,4 +27,4 @@ returns c =
     let a = c.args in
     setup_done (machine64 a.z) a.map.now a.cr3s.now (state_of [] (shadow_of a.pool.now a.records.now) a.slots.now) (sym c.in_ok-m.ensures.refusal)
     (search rules) (search rules) (search rules)
-    (c.set_roots.ensures ∙ ap (λ (z : Sizes). rooted (machine64 z) a.cr3s.now c.fill-2.new.self) c.in_ok-m.ensures.same)
+    (c.set_roots.ensures ∙ ap (λ (z : Sizes). rooted (machine64 z) a.cr3s.now c.zero-2.new.buffer) c.in_ok-m.ensures.same)
