@@ -2,12 +2,12 @@
 
 // Each number is drawn from the one before; the first from a seed.
 #[derive(Clone, Copy)]
-pub struct Draws {
+pub(crate) struct Draws {
     last: u64,
 }
 
 impl Draws {
-    pub fn new(seed: u64) -> Draws {
+    pub(crate) fn new(seed: u64) -> Draws {
         Draws { last: seed }
     }
 
@@ -17,7 +17,7 @@ impl Draws {
     }
 
     // The upper bits of a number: the lower ones repeat early.
-    pub fn high(&mut self) -> u64 {
+    pub(crate) fn high(&mut self) -> u64 {
         self.number() / 65536
     }
 }

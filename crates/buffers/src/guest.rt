@@ -1,7 +1,7 @@
 // A guest of 256 frames and events on 4 processors, all drawn, for the largest list call.
 // Entries and stores keep to sixteen frames, 0, 17, .., 255, so that walks change often; 272 is beyond the guest.
-// Kept: an event's kind is a number here and no `rules::Kind`: the numbers of an event are what is drawn and what the call takes, and
-// this crate stands on no other.
+// Kept: an event's kind is a number here and no `rules::Kind`: an event's numbers are what is drawn and what the call takes, so that
+// every number can be drawn.
 use crate::draw::Draws;
 
 const MAP_BASE: u64 = 1000;
@@ -52,9 +52,13 @@ fn event(draws: &mut Draws) -> [u64; 4] {
     [proc, kind, first, second]
 }
 
-pub fn put_events(events: &mut [[u64; 4]]) {
+// As many numbers as there is room for: the last event may be cut short.
+pub fn put_events(numbers: &mut [u64]) {
     let mut draws = Draws::new(1);
+    let (events, rest) = numbers.as_chunks_mut::<4>();
     events.fill_with(|| event(&mut draws));
+    let last = event(&mut draws);
+    rest.copy_from_slice(&last[..rest.len()]);
 }
 
 pub fn put_entries(words: &mut [u64]) {
@@ -62,8 +66,8 @@ pub fn put_entries(words: &mut [u64]) {
     words.fill_with(|| entry(draws.high()));
 }
 
-pub fn put_map(map: &mut [u64; 256]) {
-    for (frame, f) in map.iter_mut().zip(MAP_BASE..) {
-        *frame = f;
+pub fn put_map(map: &mut [u64]) {
+    for (i, frame) in map.iter_mut().enumerate() {
+        *frame = MAP_BASE.wrapping_add(i as u64);
     }
 }

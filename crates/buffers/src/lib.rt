@@ -49,6 +49,11 @@ pub fn print_marks(rt: &impl Print, bytes: &[u8]) -> io::Result<()> {
     Ok(())
 }
 
+// Whether what was lent is as it was.
+pub fn print_kept(rt: &impl Print, kept: bool) -> io::Result<()> {
+    print(rt, if kept { b" unchanged" } else { b" changed" })
+}
+
 // Reads until the buffer is full or the input ends, and says how many bytes it put at the start. A read that fails is an error,
 // and never the end of the text.
 pub fn read_full<R: Read>(reader: &mut R, to: &mut [u8]) -> io::Result<usize>
@@ -85,9 +90,8 @@ pub fn put_pairs(xs: &mut [u64], pairs: &[u64]) {
 
 // As much of xs as there is room for.
 pub fn copy(to: &mut [u64], xs: &[u64]) {
-    for (place, x) in to.iter_mut().zip(xs) {
-        *place = *x;
-    }
+    let n = to.len().min(xs.len());
+    to[..n].copy_from_slice(&xs[..n]);
 }
 
 // Three times the sum so far and the next element, so that each place counts.

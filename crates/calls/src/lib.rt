@@ -2,20 +2,23 @@
 // What a call leaves is held to the state before it.
 #![tactic(auto)]
 
-use buffers::{at, print, print_numbers};
+ghost use Rattle.std.specs.Prelude.{◌≡◌, ◌≤◌, length, replicate};
+ghost use Rattle.calls.specs.State.{buffer_of};
+
+use buffers::{at, print, print_kept, print_numbers};
 use rules::{Event, Refusal};
 use shadow::Answer;
 use std::io;
 use tables::Sizes;
 
 #[derive(Clone, Copy, Debug, PartialEq, Eq)]
-pub enum Call {
+pub enum Asked {
     Setup,
     Event,
 }
 
 #[derive(Clone, Copy, Debug, PartialEq, Eq)]
-pub enum Section {
+pub enum Buffer {
     Words,
     Pool,
     Records,
@@ -34,7 +37,11 @@ pub struct State {
 }
 
 impl State {
-    pub fn new() -> State {
+    pub fn new() -> State
+        ensures numbers { (result.given ≡ replicate 9 0) × (result.map ≡ replicate 6 0) }
+        ensures words { result.words ≡ replicate 3072 0 }
+        ensures shadow { (result.pool ≡ replicate 10240 0) × (result.records ≡ replicate 40 0) × (result.slots ≡ replicate 120 0) }
+    {
         State {
             given: [0; 9],
             map: [0; 6],
@@ -45,25 +52,31 @@ impl State {
         }
     }
 
-    pub fn section(&self, section: Section) -> &[u64] {
-        match section {
-            Section::Words => &self.words,
-            Section::Pool => &self.pool,
-            Section::Records => &self.records,
-            Section::Slots => &self.slots,
+    pub fn buffer(&self, buffer: Buffer) -> &[u64]
+        ensures { result.now ≡ buffer_of self.now buffer }
+    {
+        match buffer {
+            Buffer::Words => &self.words,
+            Buffer::Pool => &self.pool,
+            Buffer::Records => &self.records,
+            Buffer::Slots => &self.slots,
         }
     }
 
-    pub fn section_mut(&mut self, section: Section) -> &mut [u64] {
-        match section {
-            Section::Words => &mut self.words,
-            Section::Pool => &mut self.pool,
-            Section::Records => &mut self.records,
-            Section::Slots => &mut self.slots,
+    pub fn buffer_mut(&mut self, buffer: Buffer) -> &mut [u64]
+        ensures { result.now ≡ buffer_of self.old buffer }
+    {
+        match buffer {
+            Buffer::Words => &mut self.words,
+            Buffer::Pool => &mut self.pool,
+            Buffer::Records => &mut self.records,
+            Buffer::Slots => &mut self.slots,
         }
     }
 
-    fn answer(&mut self, call: Call, numbers: &[u64]) -> Result<Answer, Refusal> {
+    fn answer(&mut self, asked: Asked, numbers: &[u64]) -> Result<Answer, Refusal>
+        ensures { (self.new.given ≡ self.old.given) × (self.new.map ≡ self.old.map) }
+    {
         let [
             frames,
             processors,
@@ -81,21 +94,23 @@ impl State {
             share,
             base,
         };
-        let map = first(&mut self.map, map);
+        let map = &self.map[..within(map, self.map.len())];
         let words = first(&mut self.words, words);
         let pool = first(&mut self.pool, pool);
         let records = first(&mut self.records, records);
         let slots = first(&mut self.slots, slots);
-        match call {
-            Call::Setup => shadow::setup(map, numbers, pool, records, slots, z),
-            Call::Event => shadow::event(map, words, pool, records, slots, z, event_of(numbers)),
+        match asked {
+            Asked::Setup => shadow::setup(map, numbers, pool, records, slots, z),
+            Asked::Event => shadow::event(map, words, pool, records, slots, z, event_of(numbers)),
         }
     }
 
     // Calls, and prints "refusal, kind, value", and whether all buffers are as they were.
-    pub fn show(&mut self, rt: &impl Print, call: Call, numbers: &[u64]) -> io::Result<()> {
+    pub fn show(&mut self, rt: &impl Print, asked: Asked, numbers: &[u64]) -> io::Result<()>
+        ensures { (self.new.given ≡ self.old.given) × (self.new.map ≡ self.old.map) }
+    {
         let before = *self;
-        let r = self.answer(call, numbers);
+        let r = self.answer(asked, numbers);
         print(rt, b":")?;
         print_numbers(
             rt,
@@ -105,19 +120,22 @@ impl State {
                 shadow::value_of(r),
             ],
         )?;
-        let kept = if *self == before {
-            "unchanged"
-        } else {
-            "changed"
-        };
-        print!(rt; " {kept}")
+        print_kept(rt, *self == before)
     }
 }
 
-// The first n, and at most what there is.
-fn first(xs: &mut [u64], n: u64) -> &mut [u64] {
-    let n = n.min(xs.len() as u64);
-    &mut xs[..n as usize]
+// A length that is asked for, and at most what there is.
+fn within(n: u64, most: usize) -> usize
+    ensures { result ≤ most }
+{
+    n.min(most as u64) as usize
+}
+
+fn first(xs: &mut [u64], n: u64) -> &mut [u64]
+    ensures { length result.now ≤ length xs.old }
+{
+    let n = within(n, xs.len());
+    &mut xs[..n]
 }
 
 fn event_of(numbers: &[u64]) -> Event {

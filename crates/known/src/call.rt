@@ -1,4 +1,7 @@
 // The list call: what it is asked, the buffers that it is lent, and its answer as text.
+ghost use Rattle.std.specs.Prelude.{◌≡◌};
+ghost use Rattle.rules.specs.Refusal.{refusal_of};
+
 use buffers::{draw, print, print_numbers, print_pairs};
 use rules::{Question, Refusal};
 use std::io;
@@ -55,16 +58,17 @@ impl Call<'_> {
 
     // Calls, and prints the number of the refusal, the count and the pairs.
     pub fn show(&self, rt: &impl Print, lent: &mut Lent) -> io::Result<()> {
-        let (refusal, count) = match self.list(lent) {
-            Ok(count) => (0, count),
-            Err(refusal) => (u64::from(refusal), 0),
-        };
-        print_numbers(rt, &[refusal, count])?;
+        let listed = self.list(lent);
+        let count = listed.unwrap_or(0);
+        print_numbers(rt, &[refusal_number(listed), count])?;
         print_pairs(rt, count, lent.outcomes)?;
         print(rt, b"\n")
     }
 }
 
-pub fn print_kept(rt: &impl Print, same: bool) -> io::Result<()> {
-    println!(rt; " {}", if same { "unchanged" } else { "changed" })
+// The number under which a call was refused, and 0 if it was not.
+pub fn refusal_number(listed: Result<u64, Refusal>) -> u64
+    ensures { result ≡ refusal_of listed }
+{
+    listed.err().map_or(0, u64::from)
 }

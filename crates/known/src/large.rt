@@ -34,7 +34,7 @@ pub fn show(rt: &impl Print) -> io::Result<()> {
     let mut map = [0u64; 256];
     let mut events = [[0u64; 4]; 4096];
     guest::put_map(&mut map);
-    guest::put_events(&mut events);
+    guest::put_events(events.as_flattened_mut());
     let call = Call {
         map: &map,
         cr3s: &CR3S,

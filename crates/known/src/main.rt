@@ -6,8 +6,8 @@ mod call;
 mod large;
 mod sides;
 
-use buffers::{draw, print, print_marks, put_pairs};
-use call::{Call, Lent, READ, print_kept};
+use buffers::{draw, print, print_kept, print_marks, put_pairs};
+use call::{Call, Lent, READ};
 use std::io;
 
 const MAP: [u64; 13] = [
@@ -67,9 +67,9 @@ fn show_words(rt: &impl Print, words: &[u64; 3072]) -> io::Result<()> {
 fn show_left(rt: &impl Print, work: &[u8; 300], outcomes: &[u64; 24]) -> io::Result<()> {
     print(rt, b"outcomes after the pairs:")?;
     print_kept(rt, draw::holds(outcomes, 4, 3))?;
-    print(rt, b"work bytes from 240 on:")?;
+    print(rt, b"\nwork bytes from 240 on:")?;
     print_kept(rt, draw::holds(work, 240, 2))?;
-    print(rt, b"work bytes that are 1 below 240:")?;
+    print(rt, b"\nwork bytes that are 1 below 240:")?;
     print_marks(rt, &work[..240])?;
     print(rt, b"\n")
 }

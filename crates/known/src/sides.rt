@@ -2,8 +2,8 @@
 // A line is the call's last event or its question, the number that the call returns, and whether the lent buffers changed.
 ghost use Rattle.std.specs.Prelude.{◌≤◌};
 
-use crate::call::{Call, Lent, READ, print_kept};
-use buffers::{print, print_number, print_numbers};
+use crate::call::{Call, Lent, READ, refusal_number};
+use buffers::{print, print_kept, print_number, print_numbers};
 use rules::Question;
 use std::io;
 
@@ -103,12 +103,9 @@ fn show_call<const WORK: usize>(
     print(rt, label)?;
     print_numbers(rt, numbers)?;
     print(rt, b":")?;
-    let refusal = match call.list(&mut lent) {
-        Ok(_) => 0,
-        Err(refusal) => u64::from(refusal),
-    };
-    print_number(rt, refusal)?;
-    print_kept(rt, lent.is_as_filled())
+    print_number(rt, refusal_number(call.list(&mut lent)))?;
+    print_kept(rt, lent.is_as_filled())?;
+    print(rt, b"\n")
 }
 
 fn show_event(rt: &impl Print, e: &[u64; 4]) -> io::Result<()> {

@@ -56,11 +56,14 @@ fn show(rt: &impl Print, label: &[u8], text: &[u8]) -> io::Result<()> {
     )
 }
 
+// A label goes on to its `=`, across any `|`; what follows the last text is no case.
 fn show_all(rt: &impl Print, s: &[u8]) -> io::Result<()> {
-    for case in s.split(|b| *b == b'|') {
-        if let Some(end) = case.iter().position(|b| *b == b'=') {
-            show(rt, &case[..end], &case[end + 1..])?;
-        }
+    let mut rest = s;
+    while let Some(eq) = rest.iter().position(|b| *b == b'=') {
+        let text = &rest[eq + 1..];
+        let end = text.iter().position(|b| *b == b'|').unwrap_or(text.len());
+        show(rt, &rest[..eq], &text[..end])?;
+        rest = text.get(end + 1..).unwrap_or(&[]);
     }
     Ok(())
 }

@@ -1,16 +1,16 @@
 // A line of the script: what it asks for, and its numbers.
 ghost use Rattle.std.specs.Prelude.{◌≤◌};
 
-use calls::{Call, Section};
+use calls::{Asked, Buffer};
 
 #[derive(Clone, Copy, Debug, PartialEq, Eq)]
 pub enum Command {
     Given,
     Map,
     New,
-    Put(Section),
-    Call(Call),
-    Show(Section),
+    Put(Buffer),
+    Call(Asked),
+    Show(Buffer),
     Heading,
 }
 
@@ -20,26 +20,28 @@ impl From<u8> for Command {
             b'g' => Command::Given,
             b'm' => Command::Map,
             b'n' => Command::New,
-            b'w' => Command::Put(Section::Words),
-            b'p' => Command::Put(Section::Pool),
-            b'r' => Command::Put(Section::Records),
-            b's' => Command::Put(Section::Slots),
-            b'c' => Command::Call(Call::Setup),
-            b'e' => Command::Call(Call::Event),
-            b'W' => Command::Show(Section::Words),
-            b'P' => Command::Show(Section::Pool),
-            b'R' => Command::Show(Section::Records),
-            b'S' => Command::Show(Section::Slots),
+            b'w' => Command::Put(Buffer::Words),
+            b'p' => Command::Put(Buffer::Pool),
+            b'r' => Command::Put(Buffer::Records),
+            b's' => Command::Put(Buffer::Slots),
+            b'c' => Command::Call(Asked::Setup),
+            b'e' => Command::Call(Asked::Event),
+            b'W' => Command::Show(Buffer::Words),
+            b'P' => Command::Show(Buffer::Pool),
+            b'R' => Command::Show(Buffer::Records),
+            b'S' => Command::Show(Buffer::Slots),
             _ => Command::Heading,
         }
     }
 }
 
+// 0 where no number can be read, as the script's cases have it.
 fn number(word: &[u8]) -> u64 {
     cursor::read_digits(word, 0).map_or(0, |digits| digits.value)
 }
 
 // The numbers of a line. There is room for 24, and further ones are let go.
+// Kept: a buffer and a count, since the project's programs have no heap.
 #[derive(Clone, Copy)]
 pub struct Numbers {
     values: [u64; 24],

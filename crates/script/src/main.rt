@@ -8,7 +8,7 @@
 
 mod line;
 
-use calls::{Section, State};
+use calls::State;
 use line::{Command, Numbers};
 use std::io;
 
@@ -23,20 +23,19 @@ fn show(rt: &impl Print, xs: &[u64], places: &[u64]) -> io::Result<()> {
 // A line that is printed: a call, places to show, or a heading.
 fn speak(rt: &impl Print, command: Command, numbers: &[u64], state: &mut State) -> io::Result<()> {
     match command {
-        Command::Call(call) => state.show(rt, call, numbers),
-        Command::Show(section) => show(rt, state.section(section), numbers),
-        // A heading.
+        Command::Call(asked) => state.show(rt, asked, numbers),
+        Command::Show(buffer) => show(rt, state.buffer(buffer), numbers),
         _ => Ok(()),
     }
 }
 
 // A line that only puts numbers somewhere, or one that is printed.
 fn act(rt: &impl Print, line: &[u8], numbers: &[u64], state: &mut State) -> io::Result<()> {
-    match Command::from(line.first().copied().unwrap_or(0)) {
+    match line.first().map_or(Command::Heading, |c| Command::from(*c)) {
         Command::Given => buffers::copy(&mut state.given, numbers),
         Command::Map => buffers::copy(&mut state.map, numbers),
         Command::New => state.words.fill(0),
-        Command::Put(section) => buffers::put_pairs(state.section_mut(section), numbers),
+        Command::Put(buffer) => buffers::put_pairs(state.buffer_mut(buffer), numbers),
         command => {
             buffers::print(rt, line)?;
             speak(rt, command, numbers, state)?;
