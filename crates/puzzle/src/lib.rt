@@ -119,7 +119,7 @@ fn fill(
 {
     let mut pairs = [0u64; sections::PAIRS_SIZE];
     let counts = read_sections(text, map, cr3s, &mut pairs, events, questions)?;
-    words[..paging::FRAME_WORDS * counts.frames as usize].fill(0);
+    paging::zero(&mut words[..paging::FRAME_WORDS * counts.frames as usize]);
     store_pairs(words, &pairs[..counts.words as usize * 2]);
     Ok(counts)
 }
