@@ -6,6 +6,7 @@ ghost use Rattle.cursor.specs.Text.{cursor_at, past_blanks, next_at};
 ghost use Rattle.cursor.specs.CursorCode.{Stands, digits_at, past_number, Stepped};
 
 // "The reader knows at each byte which line it has reached"
+// Kept: `Stands text c` in each contract, since `Stepped` of specs/ has a Cursor of place and line alone; with the text it would be another form.
 #[derive(Clone, Copy)]
 pub struct Cursor {
     pub at: usize,
@@ -92,7 +93,7 @@ pub fn next_number(text: &[u8], c: Cursor) -> Result<Number, NoNumber>
 }
 
 // The same step over a lent cursor.
-// Kept: the project wants these thin steps (docs/DECISIONS.md, 17).
+// Kept: the scope document's own form, first by value and then thin steps over a lent cursor (docs/DECISIONS.md, 17, says so).
 pub fn skip_lent(text: &[u8], c: &mut Cursor)
     requires { Stands text.now c.old }
     ensures { c.new ≡ cursor_at text.now (past_blanks text.now c.old.at) }

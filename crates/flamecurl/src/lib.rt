@@ -15,6 +15,33 @@ use rules::{Event, Question, Refusal};
 use tables::Sizes;
 use trainer::{Program, Written};
 
+fn sizes_of(frames: u64, processors: u64, share: u64, base: u64) -> Sizes
+    ensures { result ≡ sizes_of frames processors share base }
+{
+    Sizes {
+        frames,
+        processors,
+        share,
+        base,
+    }
+}
+
+fn event_from(proc: u64, kind: u64, a: u64, b: u64) -> Event
+    ensures { result ≡ event_from proc kind a b }
+{
+    Event { proc, kind, a, b }
+}
+
+fn question_from(proc: u64, addr: u64, request: u64) -> Question
+    ensures { result ≡ question_from proc addr request }
+{
+    Question {
+        proc,
+        addr,
+        request,
+    }
+}
+
 // An answer as numbers, into a buffer of as many; the first is returned.
 fn put<const N: usize>(answer: &mut [u64], numbers: [u64; N]) -> u64
     requires { (length answer.old ≡ N) × (0 < N) }
@@ -42,11 +69,7 @@ pub fn flamecurl_list(
     if answer.len() != 2 {
         return u64::from(Refusal::WrongSizes);
     }
-    let q = Question {
-        proc: processor,
-        addr: address,
-        request,
-    };
+    let q = question_from(processor, address, request);
     match listing::list(map, words, cr3s, events, work, outcomes, q) {
         Ok(count) => put(answer, [0, count]),
         Err(refusal) => put(answer, [u64::from(refusal), 0]),
@@ -67,12 +90,7 @@ pub fn flamecurl_setup(
 ) -> u64
     ensures { SetupExport (sizes_of frames processors share base) map.now cr3s.now (state_of [] (shadow_of pool.old records.old) slots.old) result (state_of [] (shadow_of pool.new records.new) slots.new) }
 {
-    let z = Sizes {
-        frames,
-        processors,
-        share,
-        base,
-    };
+    let z = sizes_of(frames, processors, share, base);
     let r = shadow::setup(map, cr3s, pool, records, slots, z);
     shadow::refusal_of(r)
 }
@@ -99,18 +117,8 @@ pub fn flamecurl_event(
     if answer.len() != 3 {
         return u64::from(Refusal::WrongSizes);
     }
-    let z = Sizes {
-        frames,
-        processors,
-        share,
-        base,
-    };
-    let e = Event {
-        proc: processor,
-        kind,
-        a,
-        b,
-    };
+    let z = sizes_of(frames, processors, share, base);
+    let e = event_from(processor, kind, a, b);
     let r = shadow::event(map, words, pool, records, slots, z, e);
     put(
         answer,
@@ -142,10 +150,7 @@ pub fn flamecurl_read(
             answer,
             [0, 0, n.frames, n.processors, n.words, n.events, n.questions],
         ),
-        Err(fault) => put(
-            answer,
-            [u64::from(fault.refusal), fault.line, 0, 0, 0, 0, 0],
-        ),
+        Err(fault) => put(answer, [fault.number(), fault.line, 0, 0, 0, 0, 0]),
     }
 }
 
@@ -158,11 +163,13 @@ fn print(text: &[u8], output: &mut [u8], answer: &mut [u64], program: Program) -
     match trainer::print(text, output, program) {
         Ok(Written::Lines(bytes)) => put(answer, [0, bytes, 0, 0]),
         Ok(Written::Refused(fault, bytes)) => {
-            put(answer, [0, bytes, u64::from(fault.refusal), fault.line])
+            put(answer, [0, bytes, fault.number(), fault.line])
         }
         Err(refusal) => put(answer, [u64::from(refusal), 0, 0, 0]),
     }
 }
+
+// Kept: the next two are two names of the C interface, one print.
 
 // What the program `answers` prints for a text. The answer: refusal, bytes written, a refused text's number and line.
 pub fn flamecurl_answers(text: &[u8], output: &mut [u8], answer: &mut [u64]) -> u64

@@ -1,5 +1,6 @@
 // The public library for C: a slice is a pointer and a count, an answer is document 01's numbers in a lent buffer, and each
-// function returns the refusal number. Each export calls the function of crates/flamecurl of the same name and states its clauses.
+// function returns the refusal number.
+// Kept: each export calls the function of crates/flamecurl of the same name and states its clauses; an export of C can't be generic.
 #![tactic(auto)]
 
 ghost use Rattle.std.specs.Prelude.{[]};

@@ -119,7 +119,7 @@ fn fill(
 {
     let mut pairs = [0u64; sections::PAIRS_SIZE];
     let counts = read_sections(text, map, cr3s, &mut pairs, events, questions)?;
-    words[..paging::FRAME_WORDS * counts.frames as usize].fill(0);
+    paging::zero(&mut words[..paging::FRAME_WORDS * counts.frames as usize]);
     store_pairs(words, &pairs[..counts.words as usize * 2]);
     Ok(counts)
 }
@@ -144,7 +144,7 @@ fn are_sized(
 }
 
 // The text is judged first; only then is anything written, so that a refusal changes nothing.
-// Kept: five buffers, since the C interface lends them one by one (`flamecurl_read`).
+// Kept: five buffers, here and in read_sections, fill, since the C interface lends them one by one (`flamecurl_read`).
 #[tactic(auto, using(crate::proofs::Calls::refused_answer), unfolding(crate::specs::Buffers::read_call))]
 pub fn read(
     text: &[u8],
@@ -157,6 +157,7 @@ pub fn read(
     ensures { after (result_of result) (buffers map.new cr3s.new words.new events.new questions.new) ≡ read_call text.now (buffers map.old cr3s.old words.old events.old questions.old) }
 {
     if !are_sized(text, map, cr3s, words, events, questions) {
+        // line 0, as read_call of specs/Buffers says
         return Err(TextFault {
             refusal: Refusal::WrongSizes,
             line: 0,

@@ -10,7 +10,7 @@ ghost use Rattle.render.specs.LinesCode.{pair_line, pair_lines, question_lines, 
 use paging::Guest;
 use rules::Question;
 
-// A lent buffer, and the place of the next byte.
+// A lent buffer, and the place of the next byte. Kept: a buffer and a place, since C lends the buffer.
 #[derive(Drop)]
 pub struct Printer<'a> {
     out: &'a mut [u8],

@@ -4,6 +4,7 @@
 use std::process::ExitCode;
 use trainer::Program;
 
+// Kept: a program has a main of its own.
 fn main(rt: HostRuntime) -> ExitCode {
     terminal::serve(&rt, Program::Run)
 }

@@ -40,7 +40,7 @@ pub enum Section {
     Questions,
 }
 
-// What the ranges hang on: how many frames and processors the text has named, 0 before it does.
+// What the ranges hang on: how many frames and processors the text has named. Kept: 0 before it does, as puzzle_of of specs/Sections gives it.
 #[derive(Clone, Copy)]
 pub struct Limits {
     pub frames: u64,
@@ -101,33 +101,34 @@ fn in_word_range(limits: Limits, before: &[u64], v: u64) -> bool
 }
 
 // What is still to come of the event is taken to be a store of 0 to word 0, which always fits.
+// Kept: 1 is a store; an event holds its kind as texts write it.
 fn event_so_far(before: &[u64], v: u64) -> Event
     ensures { result ≡ event_so_far before.now v }
 {
-    let i = before.len();
-    match i % 4 {
-        0 => Event {
+    let (_, event) = before.as_chunks::<4>();
+    match event {
+        [] => Event {
             proc: v,
             kind: 1,
             a: 0,
             b: 0,
         },
-        1 => Event {
-            proc: before[i - 1],
+        [proc] => Event {
+            proc: *proc,
             kind: v,
             a: 0,
             b: 0,
         },
-        2 => Event {
-            proc: before[i - 2],
-            kind: before[i - 1],
+        [proc, kind] => Event {
+            proc: *proc,
+            kind: *kind,
             a: v,
             b: 0,
         },
-        _ => Event {
-            proc: before[i - 3],
-            kind: before[i - 2],
-            a: before[i - 1],
+        [proc, kind, a, ..] => Event {
+            proc: *proc,
+            kind: *kind,
+            a: *a,
             b: v,
         },
     }
@@ -152,6 +153,7 @@ fn in_question_range(limits: Limits, i: usize, v: u64) -> bool
     }
 }
 
+// Kept: `in_range` and `width` of specs/Sections take the section, and these are they.
 impl Section {
     // How many numbers make one of the section.
     fn width(self) -> usize

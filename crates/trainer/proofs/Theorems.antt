@@ -1,11 +1,15 @@
 -- What is proved of `answers` and `run`. Their promises are `AnswersCall` and `RunCall` in specs/; the functions in src/ are proved to keep them.
-use mathlib.Core.Path.{◌≡◌, sym, ap, ◌∙◌, refl}
+use mathlib.Core.Path.{◌≡◌, sym, ap, ap₂, ◌∙◌, refl}
 use mathlib.Core.List.{List, [], ◌++◌}
 use Prim.Native.Nat.{ℕ, ◌/◌, ◌<◌, ◌≤◌}
 use native.Mathlib.Omega.{arith}
 use native.Mathlib.Decide.{ℕ_discrete}
 use lib.Dec.{leb}
 use lib.ListN.{length, drop}
+use Rattle.std.specs.Prelude.{Result, Ok, Err}
+use Rattle.rules.specs.declared.Refusal.{Refusal}
+use Rattle.rules.specs.Refusal.{number_of}
+use Rattle.rules.proofs.Refusals.{same_refusal}
 use Rattle.rules.specs.declared.Outcome.{Outcome}
 use Rattle.rules.specs.History.{setup64, event_at, event_refusal, Fit}
 use Rattle.rules.specs.Numbers.{events_of, question_of}
@@ -16,13 +20,16 @@ use Rattle.puzzle.specs.Buffers.{Buffers, words_of}
 use Rattle.puzzle.proofs.Accepted.{accepted}
 use Rattle.puzzle.proofs.Fits.{event-fits}
 use Rattle.render.specs.Render.{render_question}
-use Rattle.trainer.specs.Call.{posed, puzzle_in, Lines, Prints, Call, Told, told_of, bytes_of}
+use Rattle.trainer.specs.declared.Written.{Written}
+use Rattle.trainer.specs.declared.Written.TheVariants.{Lines as Wrote, Refused as RefusedOne}
+use Rattle.trainer.specs.Call.{posed, puzzle_in, Lines, Prints, Call, Told, told, told_of, bytes_of}
 use Rattle.trainer.specs.Answers.{AnswersOf, AnswersCall}
 use Rattle.trainer.specs.Run.{sizes_of, RunOf, RunCall, Startable}
 use Rattle.trainer.proofs.Turns.{joined_same, one_right}
 use Rattle.trainer.proofs.Puzzles.{ready}
 use Rattle.trainer.proofs.Wholes.{in_text}
 use Rattle.shadow.specs.Refusals.{as_setup}
+use Rattle.sections.specs.declared.TextFault.{TextFault}
 use Rattle.puzzle.proofs.Theorems as reads
 
 -- of one puzzle one list of bytes is printed: then a call has one result
@@ -55,6 +62,23 @@ one-answers = call_same AnswersOf answers-same
 
 pub one-run : (text before : List ℕ) (r s : Told) (x y : List ℕ) → RunCall text before r x → RunCall text before s y → (r ≡ s) × (x ≡ y)
 one-run = call_same RunOf (λ b x y p q. p ∙ sym q)
+
+-- and what a result tells is that result's alone
+pub same_told : (x y : Result Written Refusal) → told x ≡ told y → x ≡ y
+same_told (Ok (Wrote m)) (Ok (Wrote n)) e = let bytes : m ≡ n = cc in ap (λ (k : ℕ). Ok (Wrote k)) bytes
+same_told (Ok (Wrote m)) (Ok (RefusedOne g n)) e = cc
+same_told (Ok (Wrote m)) (Err s) e = cc
+same_told (Ok (RefusedOne f m)) (Ok (Wrote n)) e = cc
+same_told (Ok (RefusedOne f m)) (Ok (RefusedOne g n)) e =
+    let number : number_of f.refusal ≡ number_of g.refusal = cc in
+    let line : f.line ≡ g.line = cc in
+    let bytes : m ≡ n = cc in
+    let refusal = same_refusal f.refusal g.refusal number in
+    λ i. Ok (RefusedOne (record { refusal = refusal i; line = line i }) (bytes i))
+same_told (Ok (RefusedOne f m)) (Err s) e = cc
+same_told (Err r) (Ok (Wrote n)) e = cc
+same_told (Err r) (Ok (RefusedOne g n)) e = cc
+same_told (Err r) (Err s) e = let number : number_of r ≡ number_of s = cc in ap Err (same_refusal r s number)
 
 -- WHAT IS TO BE PRINTED LIES IN THE BUFFER
 told_bytes : (m : Got Puzzle) (n : ℕ) → bytes_of (told_of m n) ≡ n

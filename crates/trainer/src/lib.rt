@@ -17,6 +17,7 @@ use shadow::Answer;
 use tables::Sizes;
 
 // The number of bytes written: the lines of an accepted text, or why the text was refused.
+// Kept: no Result, since a refused text is answered too, by a line of its own.
 #[derive(Clone, Copy)]
 pub enum Written {
     Lines(u64),
@@ -33,11 +34,11 @@ const SHARE_RECORDS: usize = 8;
 
 const SHARE_SLOTS: usize = slots::SLOTS_SIZE as usize;
 
-const POOL: usize = SHARE_WORDS * sections::MOST_PROCESSORS;
+const POOL_SIZE: usize = SHARE_WORDS * sections::MOST_PROCESSORS;
 
-const RECORDS: usize = SHARE_RECORDS * sections::MOST_PROCESSORS;
+const RECORDS_SIZE: usize = SHARE_RECORDS * sections::MOST_PROCESSORS;
 
-const SLOTS: usize = SHARE_SLOTS * sections::MOST_PROCESSORS;
+const SLOTS_SIZE: usize = SHARE_SLOTS * sections::MOST_PROCESSORS;
 
 // None for a refused call.
 pub fn bytes_of(r: Result<Written, Refusal>) -> u64
@@ -49,12 +50,14 @@ pub fn bytes_of(r: Result<Written, Refusal>) -> u64
     }
 }
 
+// Kept: an enum, since LinesOf program of specs/ says what each prints.
 #[derive(Clone, Copy)]
 pub enum Program {
     Answers,
     Run,
 }
 
+// Kept: `HasRoom printer output_size` stands in each contract, since each call uses room up, so it is no invariant.
 impl Program {
     // Kept: the buffers are variables, since `puzzle::read` takes each as C lends it.
     fn print(self, text: &[u8], printer: &mut Printer<'_>) -> Written
@@ -75,7 +78,7 @@ impl Program {
             &mut questions,
         ) {
             Err(fault) => {
-                printer.put_line(b'R', &[u64::from(fault.refusal), fault.line]);
+                printer.put_line(b'R', &[fault.number(), fault.line]);
                 Written::Refused(fault, printer.len() as u64)
             }
             Ok(counts) => {
@@ -122,13 +125,14 @@ impl Lists<'_> {
     // ---- answers
 
     // The list call leaves the stores done in the words, so each question takes a copy of the puzzle's own.
+    // `Posed` excludes a refusal, so that `unwrap_or` never gives its 0.
     fn put_answer(&self, printer: &mut Printer<'_>, q: Question)
         requires { HasRoom printer.old 922 × (length self.now.words.now ≤ words_size) × Posed (lists_of self.now) q }
         ensures { Answered (lists_of self.now) q printer.old printer.new }
     {
         let mut buffer = [0u64; sections::WORDS_SIZE];
         let words = &mut buffer[..self.words.len()];
-        words.copy_from_slice(self.words);
+        paging::copy(words, self.words);
         let mut work = [0u8; 640];
         let mut outcomes = [0u64; 38];
         let count = listing::list(
@@ -168,12 +172,12 @@ impl Lists<'_> {
     {
         let mut buffer = [0u64; sections::WORDS_SIZE];
         let stored = &mut buffer[..self.words.len()];
-        stored.copy_from_slice(self.words);
-        let mut pool = [0u64; POOL];
-        let mut records = [0u64; RECORDS];
-        let mut slots = [0u64; SLOTS];
+        paging::copy(stored, self.words);
+        let mut pool = [0u64; POOL_SIZE];
+        let mut records = [0u64; RECORDS_SIZE];
+        let mut slots = [0u64; SLOTS_SIZE];
         let p = self.cr3s.len();
-        let mut machine = Session {
+        let mut session = Session {
             map: self.map,
             sizes: Sizes {
                 frames: self.map.len() as u64,
@@ -186,12 +190,12 @@ impl Lists<'_> {
             records: &mut records[..SHARE_RECORDS * p],
             slots: &mut slots[..SHARE_SLOTS * p],
         };
-        machine.set_up(self.cr3s);
-        machine.put_events(printer, self.events);
+        session.set_up(self.cr3s);
+        session.put_events(printer, self.events);
     }
 }
 
-// The machine of a run: what it is made for, and the buffers that it changes.
+// A run's session with the machine: what it is made for, and the buffers that it changes.
 #[derive(Drop)]
 struct Session<'a> {
     map: &'a [u64],
@@ -235,9 +239,9 @@ impl Session<'_> {
         requires { HasRoom printer.old output_size × (length events.now ≤ events_size) }
         ensures { EventsPut (machine64 self.old.sizes) self.old.map.now (state_in self.old) events.now printer.old printer.new }
     {
-        // Kept: k is told in the event's line, and `rules::event_at` reads event k.
-        for k in 0..events.len() / 4 {
-            let answer = self.event(rules::event_at(events, k));
+        let (events, _) = events.as_chunks::<4>();
+        for (k, e) in events.iter().enumerate() {
+            let answer = self.event(rules::event_at(e, 0));
             let index = (k + 1) as u64;
             printer.put_event(index, shadow::kind_of(answer), shadow::value_of(answer));
         }

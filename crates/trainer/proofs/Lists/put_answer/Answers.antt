@@ -15,7 +15,7 @@ use Rattle.trainer.proofs.Lists.put_answer.Goals.{After-unwrap_or-count}
 found_of : (c : After-unwrap_or-count) → Found (lists_of c.args.self.now) c.args.q c.unwrap_or-count.result c.list.new.outcomes
 found_of c =
     let l = c.list.new in
-    found (lists_of c.args.self.now) c.args.q c.requires.2 c.copy_from_slice.new.self _ _ refl refl c.copy_from_slice.ensures.after _ _ (c.unwrap_or-count.ensures ∙ unwrapped c.list.result) (lent l.words l.work l.outcomes) c.list.auto.outcomes c.list.ensures
+    found (lists_of c.args.self.now) c.args.q c.requires.2 c.copy.new.words _ _ refl refl c.copy.ensures _ _ (c.unwrap_or-count.ensures ∙ unwrapped c.list.result) (lent l.words l.work l.outcomes) c.list.auto.outcomes c.list.ensures
 
 pub front-pairs-requires : goal.front-pairs-requires
 front-pairs-requires c = omega (arith, (found_of (goal.at.front-pairs-requires c).After-unwrap_or-count).within, c.list.auto.outcomes)

@@ -23,7 +23,7 @@ returns c =
     let p = length a.cr3s.now in
     let few = c.requires.1.starts.few in
     let taken = c.requires.1.starts.taken _ _ _ (length-take-le (2048 * p) (replicate 8192 0) (omega (arith, few))) (length-take-le (8 * p) (replicate 32 0) (omega (arith, few))) (length-take-le (24 * p) (replicate 96 0) (omega (arith, few))) in
-    let start = ap (λ (w : List ℕ). state_of w (shadow_of t.pool.now t.records.now) t.slots.now) (s.words ∙ c.copy_from_slice.ensures.after)
+    let start = ap (λ (w : List ℕ). state_of w (shadow_of t.pool.now t.records.now) t.slots.now) (s.words ∙ c.copy.ensures)
     ∙ set_up M a.map.now a.cr3s.now a.words.now _ (state_of [] (shadow_of t.pool.now t.records.now) t.slots.now) taken s.call in
     let same : _ ≡ _ = λ i. joined (length a.events.now / 4) (event_line (machine64 (s.sizes i)) (s.map i) (start i) (events_of a.events.now)) in
     record { bytes = _; lines = refl; puts = puts_as same e.puts; few = e.few }

@@ -18,7 +18,7 @@ returns-in-Err c =
     let new = buffers l.map l.cr3s l.words l.events l.questions in
     let f = c.in-Err.fault in
     let m = read_refused (puzzle_in c.args.text.now) zeros new (says c.args.text.now new (ap result_of c.in-Err.is) c.read.ensures) in
-    printed (refused (number_of f.refusal) f.line) m (ap (λ (n : ℕ). render_refusal n f.line) c.from.ensures) c.put_line.ensures.0 c.requires.1 (omega (arith, c.put_line.ensures.1)) (ap (RefusedText (number_of f.refusal) f.line) c.len.ensures)
+    printed (refused (number_of f.refusal) f.line) m (ap (λ (n : ℕ). render_refusal n f.line) c.number.ensures) c.put_line.ensures.0 c.requires.1 (omega (arith, c.put_line.ensures.1)) (ap (RefusedText (number_of f.refusal) f.line) c.len.ensures)
 
 -- an accepted text stands in front of the buffers
 took_of : (c : In-Ok) → Took c.args.text.now (buffers c.read.new.map c.read.new.cr3s c.read.new.words c.read.new.events c.read.new.questions) c.in-Ok.counts.frames c.in-Ok.counts.processors c.in-Ok.counts.events c.in-Ok.counts.questions

@@ -8,4 +8,4 @@ use Rattle.trainer.proofs.Session.put_events.Given as goal
 abbrev pub invariant-loop-k : goal.invariant-loop-k
 invariant-loop-k l =
     (l.self.sizes ≡ l.initial.self.sizes) × (l.self.map.now ≡ l.initial.self.map.now)
-    × Ran (machine64 l.initial.self.sizes) l.initial.self.map.now (state_in l.initial.self) l.events l.initial.printer l.k l.printer (state_in l.self)
+    × Ran (machine64 l.initial.self.sizes) l.initial.self.map.now (state_in l.initial.self) l.fn.events l.initial.printer l.k l.printer (state_in l.self)
