@@ -120,14 +120,12 @@ pub fn flamecurl_event(
     let z = sizes_of(frames, processors, share, base);
     let e = event_from(processor, kind, a, b);
     let r = shadow::event(map, words, pool, records, slots, z, e);
-    put(
-        answer,
-        [
-            shadow::refusal_of(r),
-            shadow::kind_of(r),
-            shadow::value_of(r),
-        ],
-    )
+    let numbers = [
+        shadow::refusal_of(r),
+        shadow::kind_of(r),
+        shadow::value_of(r),
+    ];
+    put(answer, numbers)
 }
 
 // A puzzle text into buffers. The answer: refusal, line, then the counts of the five sections.
