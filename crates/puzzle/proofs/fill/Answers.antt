@@ -1,5 +1,5 @@
 -- An accepted text stands in the lent buffers: its sections in front of them, its pairs stored among zeros.
-use Rattle.std.proofs.Common.{◌≡◌, ◌*◌, ◌≤◌, ℕ, length, take, replicate, ap, ◌∙◌, arith, length-append, length-take, length-drop}
+use Rattle.std.proofs.Common.{◌≡◌, ◌*◌, ◌≤◌, ℕ, length, take, ap, ◌∙◌, arith, length-append, length-take, length-drop}
 use Rattle.std.proofs.lemmas.List.{length-replicate}
 use Rattle.puzzle.specs.Buffers.{with_pairs}
 use Rattle.puzzle.proofs.Fills.{zeros-laid}
