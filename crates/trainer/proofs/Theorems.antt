@@ -1,5 +1,5 @@
 -- What is proved of `answers` and `run`. Their promises are `AnswersCall` and `RunCall` in specs/; the functions in src/ are proved to keep them.
-use mathlib.Core.Path.{◌≡◌, sym, ap, ap₂, ◌∙◌, refl}
+use mathlib.Core.Path.{◌≡◌, sym, ap, ◌∙◌, refl}
 use mathlib.Core.List.{List, [], ◌++◌}
 use Prim.Native.Nat.{ℕ, ◌/◌, ◌<◌, ◌≤◌}
 use native.Mathlib.Omega.{arith}
@@ -29,7 +29,6 @@ use Rattle.trainer.proofs.Turns.{joined_same, one_right}
 use Rattle.trainer.proofs.Puzzles.{ready}
 use Rattle.trainer.proofs.Wholes.{in_text}
 use Rattle.shadow.specs.Refusals.{as_setup}
-use Rattle.sections.specs.declared.TextFault.{TextFault}
 use Rattle.puzzle.proofs.Theorems as reads
 
 -- of one puzzle one list of bytes is printed: then a call has one result
