@@ -17,7 +17,7 @@ use Rattle.puzzle.specs.Buffers.{Buffers}
 use Rattle.render.specs.Render.{line, render_outcomes, render_question}
 use Rattle.render.specs.LinesCode.{pair_line, pair_lines, question_lines}
 use Rattle.trainer.specs.Answers.{RightOf}
-use Rattle.trainer.specs.PartsCode.{Posed}
+use Rattle.trainer.specs.Ready.{Posed}
 
 -- ---- the list call
 

@@ -24,7 +24,7 @@ use Rattle.tables.specs.State.{machine64, shadow_of, state_of, record_size}
 use Rattle.rules.specs.Refusal.{test, refusal}
 use Rattle.trainer.specs.Call.{posed}
 use Rattle.trainer.specs.Run.{sizes_of, Startable}
-use Rattle.trainer.specs.PartsCode.{Posed, Printable}
+use Rattle.trainer.specs.Ready.{Posed, Printable}
 use Rattle.puzzle.proofs.Theorems as reads
 use Rattle.shadow.specs.Refusals as machine
 

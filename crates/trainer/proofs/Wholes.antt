@@ -19,7 +19,8 @@ use Rattle.render.specs.WrittenCode.{Out, out_of, place_of, written, Puts}
 use Rattle.render.proofs.Writes.{written_front}
 use Rattle.trainer.specs.declared.Written.{Written}
 use Rattle.trainer.specs.Call.{posed, puzzle_in, Lines, Prints, Call, text_told, told_of, output_size}
-use Rattle.trainer.specs.PartsCode.{Printable, PrintedTo}
+use Rattle.trainer.specs.PartsCode.{PrintedTo}
+use Rattle.trainer.specs.Ready.{Printable}
 use Rattle.trainer.proofs.Puzzles.{Sizes, sizes, ready}
 use Rattle.puzzle.proofs.Theorems as reads
 

@@ -1,4 +1,5 @@
 pub mod Call
 pub mod Answers
 pub mod Run
+pub mod Ready
 pub mod PartsCode

@@ -1,12 +1,11 @@
 -- What the functions below `answers` and `run` ask for and leave.
-use Rattle.std.specs.Prelude.{Result, ◌≡◌, List, [], ℕ, ◌+◌, ◌/◌, ◌^◌, ◌≤◌, ◌<◌, length, get_or}
+use Rattle.std.specs.Prelude.{Result, ◌≡◌, List, [], ℕ, ◌+◌, ◌/◌, ◌≤◌, length}
 use Rattle.rules.specs.declared.Event.{Event}
 use Rattle.rules.specs.declared.Refusal.{Refusal}
 use Rattle.rules.specs.declared.Question.{Question}
 use Rattle.rules.specs.declared.Outcome.{Outcome}
-use Rattle.listing.specs.Call.{asked, lent, list_refusal}
 use Rattle.puzzle.specs.Buffers.{Buffers, buffers}
-use Rattle.rules.specs.Numbers.{events_of, question_of}
+use Rattle.rules.specs.Numbers.{events_of}
 use Rattle.render.specs.declared.Printer.{Printer}
 use Rattle.render.specs.Render.{render_question}
 use Rattle.render.specs.WrittenCode.{Puts}
@@ -15,15 +14,14 @@ use Rattle.shadow.specs.declared.Answer.{Answer}
 use Rattle.shadow.specs.Answer.{by_number, replies}
 use Rattle.shadow.specs.After.{after}
 use Rattle.shadow.specs.Setup.{after_setup}
-use Rattle.sections.specs.Sizes.{words_size, events_size, questions_size}
 use Rattle.trainer.specs.declared.Written.{Written}
-use Rattle.trainer.specs.declared.Lists.{Lists}
+use Rattle.trainer.specs.declared.lists.Lists.{Lists}
 use Rattle.trainer.specs.declared.Session.{Session}
 use Rattle.trainer.specs.declared.Program.{Program}
 use Rattle.trainer.specs.declared.Program.TheVariants.{Answers, Run}
 use Rattle.trainer.specs.Call.{joined, puzzle_in, text_told, told_of, Lines, Prints, output_size}
 use Rattle.trainer.specs.Answers.{RightOf, AnswersOf}
-use Rattle.trainer.specs.Run.{event_line, RunOf, Startable}
+use Rattle.trainer.specs.Run.{event_line, RunOf}
 
 abbrev pub LinesOf : Program → Lines
 LinesOf Answers = AnswersOf
@@ -33,11 +31,6 @@ abbrev pub lists_of : Lists → Buffers
 lists_of l = buffers l.map.now l.cr3s.now l.words.now l.events.now l.questions.now
 
 module _ (b : Buffers) (q : Question) where
-  -- the list call takes this question, with 640 work bytes and 38 numbers for outcomes; host addresses are numbers of 64 bits
-  pub record Posed : Type 0 where
-    pub taken : (work outcomes : List ℕ) → length work ≡ 640 → length outcomes ≡ 38 → list_refusal (asked b.map b.cr3s b.events q) (lent b.words work outcomes) ≡ 0
-    pub hosts : (f : ℕ) → f < length b.map → get_or b.map f 0 < 2 ^ 40
-
   -- the lines of the question were written
   pub record Answered (before after : Printer) : Type 0 where
     pub list : List Outcome
@@ -71,14 +64,6 @@ pub record EventsPut (M : Machine) (map : List ℕ) (start : State) (events : Li
   pub few : after.at ≤ before.at + output_size
 
 -- ---- a program
-
--- every question can be asked, and the machine can start
-pub record Printable (b : Buffers) : Type 0 where
-  pub words : length b.words ≤ words_size
-  pub few : length b.questions ≤ questions_size
-  pub events : length b.events ≤ events_size
-  pub starts : Startable b.map b.cr3s
-  pub each : (k : ℕ) → k < length b.questions / 3 → Posed b (question_of b.questions k)
 
 -- all lines were written
 pub record AllPut (Of : Lines) (b : Buffers) (before after : Printer) : Type 0 where

@@ -4,12 +4,16 @@
 ghost use Rattle.std.specs.Prelude.{◌≡◌, ◌*◌, ◌≤◌, length, take};
 ghost use Rattle.tables.specs.State.{machine64};
 ghost use Rattle.render.specs.WrittenCode.{HasRoom};
-ghost use Rattle.sections.specs.Sizes.{words_size, events_size};
+ghost use Rattle.sections.specs.Sizes.{events_size};
 ghost use Rattle.trainer.specs.Call.{Call, told, bytes_of, output_size};
 ghost use Rattle.trainer.specs.Answers.{AnswersOf};
 ghost use Rattle.trainer.specs.Run.{RunOf};
-ghost use Rattle.trainer.specs.PartsCode.{LinesOf, lists_of, state_in, Posed, Answered, Started, Stepped, EventsPut, Printable, AllPut, PrintedTo};
+ghost use Rattle.trainer.specs.Ready.{Posed};
+ghost use Rattle.trainer.specs.PartsCode.{LinesOf, lists_of, state_in, Answered, Started, Stepped, EventsPut, AllPut, PrintedTo};
 
+mod lists;
+
+use lists::Lists;
 use render::Printer;
 use rules::{Event, Question, Refusal};
 use sections::TextFault;
@@ -101,7 +105,7 @@ impl Program {
     }
 
     fn put(self, lists: &Lists<'_>, printer: &mut Printer<'_>)
-        requires { HasRoom printer.old output_size × Printable (lists_of lists.now) }
+        requires { HasRoom printer.old output_size }
         ensures { AllPut (LinesOf self) (lists_of lists.now) printer.old printer.new }
     {
         match self {
@@ -111,23 +115,13 @@ impl Program {
     }
 }
 
-// The lists of a puzzle, as they were read.
-#[derive(Drop)]
-struct Lists<'a> {
-    map: &'a [u64],
-    cr3s: &'a [u64],
-    words: &'a [u64],
-    events: &'a [u64],
-    questions: &'a [u64],
-}
-
 impl Lists<'_> {
     // ---- answers
 
     // The list call leaves the stores done in the words, so each question takes a copy of the puzzle's own.
     // `Posed` excludes a refusal, so that `unwrap_or` never gives its 0.
     fn put_answer(&self, printer: &mut Printer<'_>, q: Question)
-        requires { HasRoom printer.old 922 × (length self.now.words.now ≤ words_size) × Posed (lists_of self.now) q }
+        requires { HasRoom printer.old 922 × Posed (lists_of self.now) q }
         ensures { Answered (lists_of self.now) q printer.old printer.new }
     {
         let mut buffer = [0u64; sections::WORDS_SIZE];
@@ -150,7 +144,7 @@ impl Lists<'_> {
     }
 
     fn put_answers(&self, printer: &mut Printer<'_>)
-        requires { HasRoom printer.old output_size × Printable (lists_of self.now) }
+        requires { HasRoom printer.old output_size }
         ensures { AllPut AnswersOf (lists_of self.now) printer.old printer.new }
     {
         for numbers in self.questions.chunks_exact(3) {
@@ -167,7 +161,7 @@ impl Lists<'_> {
 
     // The machine wants exact lengths: four tables with their records, and eight slots, to a processor.
     fn put_run(&self, printer: &mut Printer<'_>)
-        requires { HasRoom printer.old output_size × Printable (lists_of self.now) }
+        requires { HasRoom printer.old output_size }
         ensures { AllPut RunOf (lists_of self.now) printer.old printer.new }
     {
         let mut buffer = [0u64; sections::WORDS_SIZE];

@@ -7,7 +7,8 @@ use Rattle.rules.specs.Refusal.{number_of}
 use Rattle.puzzle.specs.Buffers.{Buffers, buffers, result_of}
 use Rattle.render.specs.Render.{render_refusal}
 use Rattle.trainer.specs.Call.{puzzle_in, Bytes, RefusedText}
-use Rattle.trainer.specs.PartsCode.{LinesOf, Printable}
+use Rattle.trainer.specs.PartsCode.{LinesOf}
+use Rattle.trainer.specs.Ready.{Printable}
 use Rattle.trainer.proofs.Wholes.{Took, zeros, says, read_refused, took, fronts_are, printed}
 use Rattle.trainer.proofs.Program.print.Goals as goal
 use Rattle.trainer.proofs.Program.print.Goals.{In-Ok}
@@ -39,10 +40,10 @@ front-events-requires c = (took_of (goal.at.front-events-requires c).In-Ok).coun
 pub front-questions-requires : goal.front-questions-requires
 front-questions-requires c = (took_of (goal.at.front-questions-requires c).In-Ok).counts.questions
 
-pub put-requires : goal.put-requires
-put-requires c =
-    let t = took_of (goal.at.put-requires c).In-Ok in
-    (c.requires.0, subst⁻¹ Printable (fronts_are t c.front-map.ensures c.front-cr3s.ensures c.front-words.ensures c.front-events.ensures c.front-questions.ensures) t.ready)
+pub invariant_of-lists : goal.invariant_of-lists
+invariant_of-lists c =
+    let t = took_of (goal.at.invariant_of-lists c).In-Ok in
+    record { ready = subst⁻¹ Printable (fronts_are t c.front-map.ensures c.front-cr3s.ensures c.front-words.ensures c.front-events.ensures c.front-questions.ensures) t.ready }
 
 pub returns-in-Ok : goal.returns-in-Ok
 returns-in-Ok c =

@@ -3,7 +3,7 @@ use Rattle.std.specs.Slice.Iter.{chunks_exact_rest, chunks_exact_size}
 use mathlib.Core.Path.{◌≡◌}
 use Rattle.trainer.specs.PartsCode.{lists_of}
 use Rattle.trainer.proofs.Turns.{Passed}
-use Rattle.trainer.proofs.Lists.put_answers.Given as goal
+use Rattle.trainer.proofs.lists.Lists.put_answers.Given as goal
 
 abbrev pub invariant-loop-numbers : goal.invariant-loop-numbers
 invariant-loop-numbers l =

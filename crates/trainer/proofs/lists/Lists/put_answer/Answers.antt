@@ -9,13 +9,13 @@ use Rattle.render.specs.LinesCode.{question_lines}
 use Rattle.render.proofs.Writes.{puts_as}
 use Rattle.trainer.specs.PartsCode.{lists_of}
 use Rattle.trainer.proofs.Asks.{Found, found, unwrapped, question-pairs}
-use Rattle.trainer.proofs.Lists.put_answer.Goals as goal
-use Rattle.trainer.proofs.Lists.put_answer.Goals.{After-unwrap_or-count}
+use Rattle.trainer.proofs.lists.Lists.put_answer.Goals as goal
+use Rattle.trainer.proofs.lists.Lists.put_answer.Goals.{After-unwrap_or-count}
 
 found_of : (c : After-unwrap_or-count) → Found (lists_of c.args.self.now) c.args.q c.unwrap_or-count.result c.list.new.outcomes
 found_of c =
     let l = c.list.new in
-    found (lists_of c.args.self.now) c.args.q c.requires.2 c.copy.new.words _ _ refl refl c.copy.ensures _ _ (c.unwrap_or-count.ensures ∙ unwrapped c.list.result) (lent l.words l.work l.outcomes) c.list.auto.outcomes c.list.ensures
+    found (lists_of c.args.self.now) c.args.q c.requires.1 c.copy.new.words _ _ refl refl c.copy.ensures _ _ (c.unwrap_or-count.ensures ∙ unwrapped c.list.result) (lent l.words l.work l.outcomes) c.list.auto.outcomes c.list.ensures
 
 pub front-pairs-requires : goal.front-pairs-requires
 front-pairs-requires c = omega (arith, (found_of (goal.at.front-pairs-requires c).After-unwrap_or-count).within, c.list.auto.outcomes)
