@@ -53,7 +53,7 @@ pub fn fill<T: Drawn>(xs: &mut [T], seed: u64) {
     }
 }
 
-// Whether what was filled is still there, from the given place on.
+// Whether what was filled is still there, from the given place on. Kept: the place, since the numbers are drawn from the start.
 pub fn holds<T: Drawn>(xs: &[T], from: usize, seed: u64) -> bool {
     xs.iter()
         .zip(Draws::new(seed))

@@ -1,7 +1,7 @@
 // A guest of 256 frames and events on 4 processors, all drawn, for the largest list call.
 // Entries and stores keep to sixteen frames, 0, 17, .., 255, so that walks change often; 272 is beyond the guest.
-// Kept: an event's kind is a number here and no `rules::Kind`: an event's numbers are what is drawn and what the call takes, so that
-// every number can be drawn.
+// Kept: an event's kind is a number here and no `rules::Kind`: it goes into the buffer as a number, and an enum would only be written
+// back as one.
 use crate::draw::Draws;
 
 const MAP_BASE: u64 = 1000;

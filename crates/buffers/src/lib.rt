@@ -24,7 +24,7 @@ pub fn print_numbers(rt: &impl Print, xs: &[u64]) -> io::Result<()> {
     Ok(())
 }
 
-// The pairs that count, and no more than there are.
+// The pairs that count, and no more than there are. Kept: the count, as the list call answers it beside its buffer.
 pub fn print_pairs(rt: &impl Print, count: u64, xs: &[u64]) -> io::Result<()> {
     let (pairs, _) = xs.as_chunks::<2>();
     for [tag, value] in pairs.iter().take(count as usize) {

@@ -51,7 +51,7 @@ pub fn skip(text: &[u8], c: Cursor) -> Cursor
     }
 }
 
-// None: the digits write 2^64 or more.
+// None: the digits write 2^64 or more. Kept: from beside the text, as `digits_at text at` of specs/CursorCode has it.
 pub fn read_digits(text: &[u8], from: usize) -> Option<Digits>
     requires { from ≤ length text.now }
     ensures { result ≡ digits_at text.now from }

@@ -108,7 +108,7 @@ pub fn reread_word(words: &[u64], work: &mut [u8], at: AskedPage, a: u64)
     }
 }
 
-// Walks from byte `from` on are forgotten; the walk from the root begins anew.
+// Walks from byte `from` on are forgotten; the walk from the root begins anew. Kept: from beside work, as `restarted` of specs/ has it.
 pub fn restart(words: &[u64], work: &mut [u8], at: AskedPage, from: usize, cr3: Guest)
     requires { Room at.frames words.now work.old × (from ≤ work_bytes at.frames) × (cr3.0 < at.frames) }
     ensures { work.new ≡ restarted tables64 at.frames at.page words.now from cr3 work.old }

@@ -50,7 +50,7 @@ impl Rights {
         Rights(7)
     }
 
-    // Kept: no From, since its clauses say too that the number is small.
+    // Kept: no From, which is no plainer: callers cite by its name the clause that the number is small.
     pub fn number(self) -> u64
         ensures number { result ≡ self }
         ensures small { result < 8 }
@@ -271,7 +271,8 @@ pub fn origin_of(map: &[u64], h: Host) -> Option<Guest>
 
 // ---- numbers that fit
 
-// Kept: std's `contains` under the name that specs/Numbers gives the fact, which six tests of numbers cite.
+// Kept: std's `contains` under the name that specs/Numbers gives the fact; the must-fail edits refuses_what_fits of listing and
+// share_past_the_range of tables name calls of it.
 pub fn is_between(lo: u64, hi: u64, x: u64) -> bool
     ensures { result ≡ is_between lo hi x }
 {
@@ -292,7 +293,7 @@ pub fn noted_at(f: u64) -> usize
     ((f ^ (f >> 12)) & 0xFFF) as usize
 }
 
-// Only a frame whose place is noted already need be compared with those before it.
+// Only a frame whose place is noted already need be compared with those before it. Kept: n beside the map, as of is_new.
 fn is_new_by(map: &[u64], notes: &[u8; 4096], n: usize, f: u64) -> bool
     requires { (n ≤ length map.now) × Noted map.now notes.now n }
     ensures { result ≡ is_new map.now n f }

@@ -34,7 +34,7 @@ pub enum Outcome {
     Fault(u64),
 }
 
-// Event k of a list, "four numbers each". Kept: k beside the list, as `event_of` of specs/Numbers reads it.
+// Event k of a list, "four numbers each". Kept: k, though callers pass a chunk and 0: the clause, `event_of events.now k`, promises every k.
 pub fn event_at(events: &[u64], k: usize) -> Event
     requires { 4 * k + 3 < length events.now }
     ensures { result ≡ event_of events.now k }

@@ -101,7 +101,7 @@ fn in_word_range(limits: Limits, before: &[u64], v: u64) -> bool
 }
 
 // What is still to come of the event is taken to be a store of 0 to word 0, which always fits.
-// Kept: 1 is a store; an event holds its kind as texts write it.
+// Kept: 1 is a store, as event_so_far of specs/Sections, this function's clause, writes it.
 fn event_so_far(before: &[u64], v: u64) -> Event
     ensures { result ≡ event_so_far before.now v }
 {

@@ -67,7 +67,7 @@ pub fn value_of(a: Result<Answer, Refusal>) -> u64
 
 // What an event does that was accepted. Its kind comes beside e, which keeps the number: the contract speaks of e's alone.
 // Kept: the buffers as parameters, here and in access, fill and events (tried: a struct of borrows with methods; of a
-// buffer that a method passes on as &, a proof then knows the length alone).
+// buffer that a method passes on as &, a proof then knows the length alone); in refusals, as the C interface's calls have them.
 #[tactic(auto, unfolding(crate::specs::After::moved))]
 fn take_step(
     map: &[u64],

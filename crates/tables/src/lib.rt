@@ -22,7 +22,7 @@ pub struct Sizes {
 }
 
 // Where a path through the shadow tables stands: the level of its next entry, the table, the rights of all entries passed.
-// Walk's twin on purpose: a table is no guest frame, and `down` and `path_to` of specs/State speak of a Path. Here
+// Kept: Walk's twin, since a table is no guest frame, and `down` and `path_to` of specs/State speak of a Path. Here
 // and in Spot, tables are numbers into two buffers that C lends, so no boxes.
 #[derive(Clone, Copy)]
 pub struct Path {
@@ -44,7 +44,7 @@ pub const RECORD: usize = 2;
 
 // ---- records and owners
 
-// Here and in shadowed_by: two numbers of one record, each asked for alone.
+// Kept, here and in shadowed_by: two numbers of one record, each asked for alone.
 pub fn level_of(records: &[u64], t: u64) -> u64
     requires { t ≤ 64 }
     ensures { result ≡ level_of records.now t }
@@ -154,7 +154,7 @@ fn free_table(pool: &mut [u64], records: &mut [u64], m: Ranged, t: u64, level: u
     if level == 0 {
         return;
     }
-    // By number: each turn changes the pool.
+    // Kept: by number, since each turn changes the pool.
     for i in 0..paging::FRAME_WORDS {
         cut_entry(pool, records, m, level - 1, t, i);
     }

@@ -14,7 +14,7 @@ use trainer::{OUTPUT_SIZE, Program};
 const ASKED: usize = sections::TEXT_SIZE + 1;
 
 // To the end of the input or of the buffer: how many bytes were read. Kept: std's own such call fills a `Vec`, on the heap.
-// Kept: as buffers::read_full; the shipped programs stand on no crate of the gate.
+// Kept: as buffers::read_full, which is the gate's programs' (README.md, "Where to read"): the shipped programs stand on no crate of theirs.
 fn read_text<R: Read>(reader: &mut R, text: &mut [u8]) -> io::Result<usize>
     ensures { IfOk result (λ n. n ≤ length text.new) }
 {

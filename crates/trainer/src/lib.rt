@@ -242,7 +242,7 @@ impl Session<'_> {
     }
 }
 
-// The first n parts of a buffer, of so many numbers each.
+// The first n parts of a buffer, of so many numbers each. Kept: here a caller's buffer and count become a slice.
 fn front(buffer: &[u64], size: usize, n: u64) -> &[u64]
     requires { size * n ≤ length buffer.now }
     ensures { result.now ≡ take (size * n) buffer.now }
