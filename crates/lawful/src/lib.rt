@@ -102,6 +102,7 @@ impl<'a> Known<'a> {
     }
 
     #[tactic(auto, unfolding(crate::specs::Rules::entry_right))]
+    #[inline(always)]
     fn entry_right(&self, t: u64, e: u64) -> bool
         requires { t < table_count (machine64 self.now.m.sizes) }
         ensures { result ≡ entry_right (machine64 self.now.m.sizes) self.now.map.now self.now.records.now t e }
@@ -211,6 +212,7 @@ impl<'a> Known<'a> {
     // Whether e, an entry of a table of the given level, is whole.
     #[cycle(entry_whole_table_whole)]
     #[tactic(auto, using(crate::proofs::Alls::alls), unfolding(crate::specs::Rules::table_whole, crate::specs::Rules::entry_whole))]
+    #[inline(always)]
     fn entry_whole(&self, e: u64, level: u64) -> bool
         requires { 0 < level }
         ensures { result ≡ entry_whole (machine64 self.now.m.sizes) self.now.map.now self.now.pool.now level e }

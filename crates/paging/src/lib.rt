@@ -1,5 +1,6 @@
 // The words of the trade: requests, entries, walks, guest and host frames.
 // Every shift and mask of the project stands here. Callers speak of indices, frames, rights and steps.
+// The smallest functions are inlined always: measured, a call of each word or byte makes a list call up to a third slower (docs/BENCH.md).
 #![tactic(auto)]
 
 ghost use Rattle.std.specs.Prelude.{◌%◌, ◌≡◌, eqb, ltb, ◌<◌, ◌≤◌, ◌^◌, length, replicate};
@@ -31,6 +32,7 @@ impl Model for Rights {
 
 impl Rights {
     // The rights that both have.
+    #[inline(always)]
     pub fn shared(self, other: Rights) -> Rights
         ensures { result ≡ meet self other }
     {
@@ -38,6 +40,7 @@ impl Rights {
     }
 
     // The rights in the three lowest bits of a number.
+    #[inline(always)]
     pub fn of(number: u64) -> Rights
         ensures { result ≡ number % 8 }
     {
@@ -51,6 +54,7 @@ impl Rights {
     }
 
     // Kept: no From, which is no plainer: callers cite by its name the clause that the number is small.
+    #[inline(always)]
     pub fn number(self) -> u64
         ensures number { result ≡ self }
         ensures small { result < 8 }
@@ -108,6 +112,7 @@ pub fn is_write(q: &Request) -> bool
     flag(needs.0, 0) == 1
 }
 
+#[inline(always)]
 pub fn has_enough(q: &Request, rights: Rights) -> bool
     ensures { result ≡ enough q.now rights }
 {
@@ -139,6 +144,7 @@ pub fn is_allowed(a: u64) -> bool
     a < 0x8000_0000_0000 || a >= 0xFFFF_8000_0000_0000
 }
 
+#[inline(always)]
 fn flag(e: u64, k: u64) -> u64
     requires { k < 64 }
     ensures { result ≡ bit e k }
@@ -146,6 +152,7 @@ fn flag(e: u64, k: u64) -> u64
     (e >> k) & 1
 }
 
+#[inline(always)]
 pub fn present(e: u64) -> bool
     ensures { result ≡ is_present e }
 {
@@ -158,12 +165,14 @@ pub fn d_of(e: u64) -> u64
     flag(e, 6)
 }
 
+#[inline(always)]
 pub fn frame_of(e: u64) -> u64
     ensures { result ≡ frame_of tables64 e }
 {
     (e >> 12) & 0xFF_FFFF_FFFF
 }
 
+#[inline(always)]
 pub fn rights_of(e: u64) -> Rights
     ensures { result ≡ rights_of tables64 e }
 {
@@ -200,12 +209,13 @@ pub const FRAME_WORDS: usize = 512;
 
 // Entry i of frame or table f; past the end it is absent.
 // Kept: the frame is bounded at each call: a record's or an entry's frame is any number until it is judged.
+#[inline(always)]
 pub fn entry_at(words: &[u64], f: u64, i: usize) -> u64
     requires { (f < 2 ^ 40) × (i < frame_words) }
     ensures { result ≡ get tables64 words.now f i }
 {
     let at = FRAME_WORDS * (f as usize) + i;
-    words.get(at).copied().unwrap_or(0)
+    if at < words.len() { words[at] } else { 0 }
 }
 
 pub fn write_entry(words: &mut [u64], f: u64, i: usize, e: u64)

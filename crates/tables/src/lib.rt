@@ -68,6 +68,7 @@ pub fn set_record(records: &mut [u64], t: u64, level: u64, g: Guest)
     records[at + 1] = g.0;
 }
 
+#[inline(always)]
 pub fn table_count(m: Ranged) -> u64
     ensures { result ≡ table_count (machine64 m.sizes) }
 {
@@ -99,6 +100,7 @@ pub fn root_of(m: Ranged, p: u64) -> u64
 
 // The table that an entry names, if it names one; most are absent, which the first test tells.
 #[tactic(auto, unfolding(crate::specs::State::named))]
+#[inline(always)]
 pub fn named_by(m: Ranged, e: u64) -> Option<u64>
     ensures { result ≡ named_some (machine64 m.sizes) e }
 {
