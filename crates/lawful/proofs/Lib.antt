@@ -1,4 +1,5 @@
 pub mod Hints
+pub mod Absent
 pub mod Alls
 pub mod Strays
 pub mod Tallies

@@ -101,13 +101,14 @@ impl<'a> Known<'a> {
             && tables::level_of(self.records, u) == level - 1
     }
 
-    #[tactic(auto, unfolding(crate::specs::Rules::entry_right))]
+    // An absent entry is told first: most are, and their table's record is then not looked at.
+    #[tactic(auto, using(crate::proofs::Absent::absent_right), unfolding(crate::specs::Rules::entry_right))]
     #[inline(always)]
     fn entry_right(&self, t: u64, e: u64) -> bool
         requires { t < table_count (machine64 self.now.m.sizes) }
         ensures { result ≡ entry_right (machine64 self.now.m.sizes) self.now.map.now self.now.records.now t e }
     {
-        self.is_laid_out(tables::level_of(self.records, t), e) && self.names_lower(t, e)
+        e == 0 || self.is_laid_out(tables::level_of(self.records, t), e) && self.names_lower(t, e)
     }
 
     fn entries_right(&self, t: u64) -> bool
