@@ -68,12 +68,19 @@ value_cases : (t : Bool) (d k : Digits) → Some d ≡ cond t (Some k) None → 
 value_cases true d k q = (refl, cc)
 value_cases false d k q = cc
 
+big_cases : (t : Bool) (k : Digits) → None ≡ cond t (Some k) None → t ≡ false
+big_cases true k q = cc
+big_cases false k q = refl
+
 module _ (s : List ℕ) (from : ℕ) where
   pub value_told : {d : Digits} → Some d ≡ digits_at s from
       → (ltb (value_of (run (drop from s))) (2 ^ 64) ≡ true) × (value_of (run (drop from s)) ≡ d.value) × (from + length (run (drop from s)) ≡ d.end)
   value_told {d} q =
       let w = value_cases (ltb (value_of (run (drop from s))) (2 ^ 64)) d (record { value = value_of (run (drop from s)); end = from + length (run (drop from s)) }) q in
       (w.0, ap (λ (k : Digits). k.value) w.1, ap (λ (k : Digits). k.end) w.1)
+
+  pub big_told : None ≡ digits_at s from → ltb (value_of (run (drop from s))) (2 ^ 64) ≡ false
+  big_told q = big_cases (ltb (value_of (run (drop from s))) (2 ^ 64)) (record { value = value_of (run (drop from s)); end = from + length (run (drop from s)) }) q
 
 line_digit : (s : List ℕ) (at : ℕ) (t : Bool) (x : ℕ) (xs : List ℕ) → at < length s → get_or s at 0 ≡ x → is_digit x ≡ t
     → line_at s (at + 1 + length xs) ≡ line_at s (at + 1) → line_at s (at + length (cond t (x ∷ xs) [])) ≡ line_at s at
@@ -107,6 +114,12 @@ module _ (s : List ℕ) (at : ℕ) where
 
   first_is : 0 < length (run (drop at s)) → get_or (run (drop at s)) 0 0 ≡ get_or s at 0
   first_is h = (first_of_run (drop at s) h).1 ∙ get_or-drop at s 0 0 ∙ ap (λ (n : ℕ). get_or s n 0) (omega arith)
+
+  pub run_none : length (run (drop at s)) ≡ 0 → is_number (run (drop at s)) ≡ false
+  run_none e = simp (le-ltb 0 (length (run (drop at s))) (omega arith))
+
+  pub run_big : ltb (value_of (run (drop at s))) (2 ^ 64) ≡ false → is_number (run (drop at s)) ≡ false
+  run_big e = simp (e, and-false)
 
   pub run_zero : get_or s at 0 ≡ 48 → 1 < length (run (drop at s)) → is_number (run (drop at s)) ≡ false
   run_zero e h =

@@ -2,3 +2,4 @@ pub mod Lines
 pub mod DigitRuns
 pub mod Decimals
 pub mod Back
+pub mod Lies

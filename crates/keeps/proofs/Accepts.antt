@@ -60,7 +60,7 @@ module _ (M : Machine) (map : List ℕ) (s : State) (ok : Able M) (ranged : Rang
   right = (lawful_is M ok map fits.outside s r.law.trees.exact).1 r.law
 
   pub accepts : (e : Event) → event_refusal (as_setup M s) e ≡ 0 → call_refusal M map s e ≡ 0
-  accepts e fit = sym (call_accepted M map s e sizes whole frames right (omega (arith, ok.upper, ranged.share)) ranged.share.0 (sym fit))
+  accepts e fit = sym (call_accepted M map s e sizes whole frames right (omega (arith, ranged.share)) (sym fit))
 
   -- THE NUMBER OF A CALL IS THAT OF ITS EVENT
   pub own_number : (e : Event) → call_refusal M map s e ≡ event_refusal (as_setup M s) e

@@ -26,6 +26,10 @@ module _ (map : List ℕ) (h : Host) where
   unfolding origin_from
   origin_next i lt ne = rw (drop-cons map i 0 lt, add-one i) (simp (ne_eqb (get_or map i 0) h.0 ne))
 
+  pub origin_end : (i : ℕ) → length map ≤ i → origin_from i (drop i map) h ≡ None
+  unfolding origin_from
+  origin_end i le = rw (drop_of_length-le map le)
+
 -- frames of which none has its like before it
 pub distinct : (map : List ℕ) → ((i j : ℕ) → i < j → j < length map → get_or map i 0 ≡ get_or map j 0 → ⊥) → Distinct map
 distinct map new i j hi hj e = go (dec_lt i j) (dec_lt j i)

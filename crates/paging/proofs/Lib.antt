@@ -1,7 +1,9 @@
+pub mod Places
 pub mod Tests
 pub mod Numbers
 pub mod Loops
 pub mod Counts
+pub mod Copies
 pub mod Chains
 pub mod Finite
 pub mod Bits

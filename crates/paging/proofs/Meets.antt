@@ -61,3 +61,7 @@ needs_small Y n h = ltb→lt _ 8 (at-below 6 (λ n. ltb (request_of Y n).needs 8
 pub adds_small : (n : ℕ) → n < 6 → (request_of tables64 n).adds ≤ 20
 unfolding request_of
 adds_small n h = leb→le _ 20 (at-below 6 (λ n. leb (request_of tables64 n).adds 20) tt n h)
+
+-- what a request needs and adds is small
+pub request_small : (n : ℕ) → n < 6 → ((request_of tables64 n).needs < 8) × ((request_of tables64 n).adds ≤ 20)
+request_small n h = (needs_small tables64 n h, adds_small n h)

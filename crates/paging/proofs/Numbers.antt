@@ -49,6 +49,14 @@ module _ (f : ℕ → Bool) where
 
   -- ---- some
 
+  pub some_none : some 0 f ≡ false
+  unfolding some
+  some_none = refl
+
+  pub some_more : (n : ℕ) → some n f ≡ false → f n ≡ false → some (n + 1) f ≡ false
+  unfolding some
+  some_more n h k = rw (add-one n) (simp (h, k))
+
   pub some_i : (n i : ℕ) → i < n → f i ≡ true → some n f ≡ true
   unfolding some
   some_i zero i h e = absurd (omega arith)

@@ -43,3 +43,8 @@ both false b e = absurd (true_T false e)
 pub positive : (n : ℕ) → (n ≡ 0 → ⊥) → 0 < n
 positive zero h = absurd (h refl)
 positive (suc n) h = omega arith
+
+pub above_one : (n : ℕ) → (n ≡ 0 → ⊥) → (n ≡ 1 → ⊥) → 1 < n
+above_one zero a b = absurd (a refl)
+above_one (suc zero) a b = absurd (b refl)
+above_one (suc (suc n)) a b = omega arith

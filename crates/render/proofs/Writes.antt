@@ -23,6 +23,9 @@ written_sets (x ∷ xs) o =
     written_sets xs (out_of (o.at + 1) (set o.buffer o.at x))
     ∙ ap₂ (λ (k i : ℕ). out_of k (sets (set o.buffer o.at x) i xs)) z (add-one o.at)
 
+pub written_at : (xs : List ℕ) (o : Out) → (written xs o).at ≡ o.at + length xs
+written_at xs o = ap (λ (r : Out). r.at) (written_sets xs o)
+
 pub written_front : (xs buffer : List ℕ) → length xs ≤ length buffer → written xs (out_of 0 buffer) ≡ out_of (length xs) (xs ++ drop (length xs) buffer)
 written_front xs buffer h =
     let z : 0 + length xs ≡ length xs = omega arith in

@@ -62,7 +62,7 @@ passed p n e = go (dec_lt p n)
     go (no h) = absurd (omega (arith, e ∙ ap (λ (b : Bool). cond b 0 4) (le-ltb p n (omega arith))))
 
 module _ (U : Setup) (e : Event) where
-  too_many : U.processors ≤ e.proc → event_refusal U e ≡ 4
+  pub too_many : U.processors ≤ e.proc → event_refusal U e ≡ 4
   unfolding event_refusal refusal
   too_many h = simp (le-leb U.processors e.proc h)
 

@@ -138,22 +138,27 @@ module _ (M : Machine) (map : List ℕ) (s : State) (e : Event) where
       unfolding event_refusal
       call_event em some = refusal_more (event_tests (as_setup M s) e) (test 12 (too_few M) ∷ []) em some ∙ passed
 
+      last : 0 ≡ event_refusal (as_setup M s) e → refusal (test 12 (too_few M) ∷ []) ≡ call_refusal M map s e
+      last fits =
+          sym (refusal_then (event_tests (as_setup M s) e) (test 12 (too_few M) ∷ []) (event_clear (as_setup M s) e (sym fits)))
+          ∙ passed
+
       -- the last test decides
       pub call_last : 0 < M.share → 0 ≡ event_refusal (as_setup M s) e → cond (ltb (M.tables.levels - 1) M.share) 0 12 ≡ call_refusal M map s e
       unfolding refusal
-      call_last some fits =
-          enough (dec_lt (M.tables.levels - 1) M.share)
-          ∙ sym (refusal_then (event_tests (as_setup M s) e) (test 12 (too_few M) ∷ []) (event_clear (as_setup M s) e (sym fits)))
-          ∙ passed
+      call_last some fits = enough (dec_lt (M.tables.levels - 1) M.share) ∙ last fits
         where
           enough : Dec (M.tables.levels - 1 < M.share) → cond (ltb (M.tables.levels - 1) M.share) 0 12 ≡ refusal (test 12 (too_few M) ∷ [])
           enough (yes h) = simp (lt-ltb (M.tables.levels - 1) M.share h, le-ltb (M.share - 1) (M.tables.levels - 1) (omega arith))
           enough (no h) = simp (le-ltb (M.tables.levels - 1) M.share (omega arith), lt-ltb (M.share - 1) (M.tables.levels - 1) (omega arith))
 
-      pub call_accepted : 0 < M.share → M.tables.levels ≤ M.share → 0 ≡ event_refusal (as_setup M s) e → 0 ≡ call_refusal M map s e
-      call_accepted some spare fits =
-          let enough = lt-ltb (M.tables.levels - 1) M.share (omega arith) in
-          ap (λ (b : Bool). cond b 0 12) (sym enough) ∙ call_last some fits
+      pub call_few : M.share - 1 < M.tables.levels - 1 → 0 ≡ event_refusal (as_setup M s) e → 12 ≡ call_refusal M map s e
+      unfolding refusal
+      call_few h fits = simp (lt-ltb (M.share - 1) (M.tables.levels - 1) h) at (last fits)
+
+      pub call_accepted : M.tables.levels - 1 ≤ M.share - 1 → 0 ≡ event_refusal (as_setup M s) e → 0 ≡ call_refusal M map s e
+      unfolding refusal
+      call_accepted h fits = simp (le-ltb (M.share - 1) (M.tables.levels - 1) h) at (last fits)
 
 -- ---- an accepted call
 

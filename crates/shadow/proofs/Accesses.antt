@@ -2,7 +2,7 @@
 use mathlib.Core.Path.{◌≡◌, refl, ap, ap₂, ◌∙◌}
 use mathlib.Core.Bool.{true, false, cond, ◌&&◌}
 use mathlib.Core.List.{List}
-use Prim.Native.Nat.{ℕ, zero, suc, ◌-◌, ◌≤◌}
+use Prim.Native.Nat.{ℕ, zero, suc, ◌-◌, ◌<◌, ◌≤◌}
 use native.Mathlib.Omega.{arith}
 use lib.Dec.{ltb}
 use borrow.Author.Tests.{le-ltb}
@@ -11,6 +11,7 @@ use Rattle.paging.specs.Frame.{guest, host, host_of, host_address}
 use Rattle.paging.specs.Layout.{index, page_of, frame_of, rights_of, is_present}
 use Rattle.paging.specs.Request.{request_of, enough}
 use Rattle.paging.specs.Walk.{meet}
+use Rattle.paging.proofs.Meets.{meet_small}
 use Rattle.tables.specs.declared.Path.{Path}
 use Rattle.tables.specs.State.{Machine, State, table_count, root_of, entry_of, top, down, next_entry, descend, path_to}
 use Rattle.slots.specs.Slots.{place_in, serving_slot}
@@ -23,21 +24,22 @@ use Rattle.shadow.specs.Access.{after_miss, after_access}
 pub record OnPath (M : Machine) (l : ℕ) (w : Path) : Type 0 where
   pub level : w.level ≡ l
   pub table : w.table ≤ table_count M
+  pub rights : w.rights < 8
 
 descend_range : (M : Machine) (pool : List ℕ) (page n l : ℕ) (w : Path) → OnPath M l w → OnPath M (l - n) (descend M pool page n w)
 unfolding descend
-descend_range M pool page zero l w on = record { level = omega (arith, on.level); table = on.table }
+descend_range M pool page zero l w on = record { level = omega (arith, on.level); table = on.table; rights = on.rights }
 descend_range M pool page (suc n) l w on =
     let e = next_entry M pool page w in
     let r = descend_range M pool page n (l - 1) (down M w e)
-    (record { level = omega (arith, on.level); table = named_small M e }) in
-    record { level = omega (arith, r.level); table = r.table }
+    (record { level = omega (arith, on.level); table = named_small M e; rights = meet_small w.rights (rights_of M.tables e) }) in
+    record { level = omega (arith, r.level); table = r.table; rights = r.rights }
 
 pub path_range : (M : Machine) (pool : List ℕ) (p page l : ℕ) → root_of M p ≤ table_count M → l ≤ M.tables.levels → OnPath M l (path_to M pool p page l)
 path_range M pool p page l h hl =
     let r = descend_range M pool page (M.tables.levels - l) M.tables.levels (top M p)
-    (record { level = refl; table = h }) in
-    record { level = omega (arith, r.level); table = r.table }
+    (record { level = refl; table = h; rights = omega arith }) in
+    record { level = omega (arith, r.level); table = r.table; rights = r.rights }
 
 module _ (M : Machine) (map : List ℕ) (p a r : ℕ) (s : State) where
   abbrev by_all : ℕ → Request → ℕ → Path → ℕ → Reply

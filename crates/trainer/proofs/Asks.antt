@@ -3,9 +3,10 @@ use Rattle.std.specs.Prelude.{Result, Ok, Err}
 use Rattle.std.specs.Result.{result_unwrap_or}
 use mathlib.Core.Path.{◌≡◌, refl, ap, ap₂, ◌∙◌, subst}
 use mathlib.Core.List.{List, [], ◌∷◌, ◌++◌}
-use Prim.Native.Nat.{ℕ, ◌*◌, ◌/◌, ◌≤◌}
+use Prim.Native.Nat.{ℕ, ◌+◌, ◌*◌, ◌/◌, ◌^◌, ◌≤◌, ◌<◌}
+use native.Mathlib.Decide.{dec_lt}
 use native.Mathlib.Omega.{arith}
-use lib.ListN.{length, take, drop, length-append, length-drop}
+use lib.ListN.{length, take, drop, get_or, length-append, length-drop, get_or-eq_default}
 use lib.Seq.{take_at}
 use Rattle.rules.specs.declared.Question.{Question}
 use Rattle.rules.specs.declared.Outcome.{Outcome}
@@ -15,7 +16,7 @@ use Rattle.listing.specs.Call.{Lent, asked, lent, count_of, pairs, ListCall}
 use Rattle.listing.proofs.Pairs.{pairs-length}
 use Rattle.puzzle.specs.Buffers.{Buffers}
 use Rattle.render.specs.Render.{line, render_outcomes, render_question}
-use Rattle.render.specs.LinesCode.{pair_line, pair_lines, question_lines}
+use Rattle.render.specs.LinesCode.{pair_line, pair_lines, question_lines, AllMapped}
 use Rattle.trainer.specs.Answers.{RightOf}
 use Rattle.trainer.specs.Ready.{Posed}
 
@@ -50,7 +51,18 @@ module _ (b : Buffers) (q : Question) (p : Posed b q) where
         stands = ap (take (2 * n)) l.outcomes ∙ take_at (pairs l.list) rest (2 * n) (omega arith);
       }
 
--- ---- pairs
+  -- ---- pairs
+
+  hosts-below : (v : ℕ) → get_or b.map v 0 < 2 ^ 40
+  hosts-below v = go (dec_lt v (length b.map))
+    where
+      go : Dec (v < length b.map) → get_or b.map v 0 < 2 ^ 40
+      go (yes h) = p.hosts v h
+      go (no h) = omega (arith, get_or-eq_default b.map 0 {n = v} (omega (arith, h)))
+
+  -- each host address of a right list is a number of 64 bits
+  pub pairs_mapped : (os : List Outcome) → RightOf b.map b.cr3s b.words b.events q os → AllMapped b.map (pairs os)
+  pairs_mapped os r = λ k l. record { small = λ e. hosts-below (get_or (pairs os) (2 * k + 1) 0) }
 
 lines_pairs : (map : List ℕ) (addr : ℕ) (os : List Outcome) → pair_lines map addr (pairs os) ≡ render_outcomes map addr os
 unfolding pair_line pair_lines render_outcomes

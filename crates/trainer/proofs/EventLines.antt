@@ -1,5 +1,5 @@
 -- One event more: the machine has taken one step, and the line of its answer has been written.
-use Rattle.std.specs.Prelude.{Result}
+use Rattle.std.specs.Prelude.{Result, Ok, Err}
 use mathlib.Core.Path.{◌≡◌, refl, sym, ap, ap₂, ◌∙◌}
 use mathlib.Core.List.{List}
 use Prim.Native.Nat.{ℕ, ◌+◌, ◌*◌, ◌/◌, ◌≤◌, ◌<◌}
@@ -12,8 +12,8 @@ use Rattle.rules.specs.Numbers.{event_of, events_of}
 use Rattle.listing.proofs.Accepts.{event-at}
 use Rattle.tables.specs.State.{Machine, State, state_of}
 use Rattle.shadow.specs.declared.Answer.{Answer}
-use Rattle.shadow.specs.declared.Answer.TheVariants.{Done}
-use Rattle.shadow.specs.Answer.{Reply, replies, gives}
+use Rattle.shadow.specs.declared.Answer.TheVariants.{Done, Address, Fault, Again, NoStep}
+use Rattle.shadow.specs.Answer.{kind_of, Reply, replies, gives}
 use Rattle.shadow.specs.After.{after}
 use Rattle.shadow.specs.Setup.{started, after_setup}
 use Rattle.shadow.specs.Refusals.{setup_refusal}
@@ -24,6 +24,15 @@ use Rattle.render.proofs.Writes.{puts_none, puts_append, puts_as}
 use Rattle.trainer.specs.Call.{joined}
 use Rattle.trainer.specs.Run.{answer_line, event_line}
 use Rattle.trainer.proofs.Turns.{joined_more}
+
+-- a kind has one digit
+pub kind_small : (a : Result Answer ℕ) → kind_of a < 10
+kind_small (Ok Done) = omega arith
+kind_small (Ok (Address v)) = omega arith
+kind_small (Ok (Fault c)) = omega arith
+kind_small (Ok Again) = omega arith
+kind_small (Ok NoStep) = omega arith
+kind_small (Err n) = omega arith
 
 module _ (M : Machine) (map : List ℕ) (start : State) (events : List ℕ) (first : Printer) where
   abbrev pub line_of : ℕ → List ℕ

@@ -22,7 +22,7 @@ range c small =
     guest_range tables64 a.m.sizes.frames a.page (2 ^ 40) (omega (arith, c.args.m.sized.frames)) a.words.now c.shadowed_by-cr3.result small c.walk_guest.ensures
 
 whole-range : (c : After-walk_guest) → c.shadowed_by-cr3.result.0 < 2 ^ 40 → (x : Walked) → c.walk_guest.result ≡ Ok x → x.last.0 < 2 ^ 40
-whole-range c small x q = rw q at (range c small)
+whole-range c small x q = let in-range = range c small in (rw q at in-range).0
 
 pub set_d-requires : goal.set_d-requires
 set_d-requires c = whole-range (goal.at.set_d-requires c).After-walk_guest (cr3-small (goal.at.set_d-requires c).After-shadowed_by-cr3) c.in-Ok.field-0 c.in-Ok.is
