@@ -1,14 +1,15 @@
 // `answers` and `run`: from the text of a puzzle to the lines that are printed, in a lent buffer.
 #![tactic(auto)]
 
-ghost use Rattle.std.specs.Prelude.{◌≡◌, ◌*◌, ◌≤◌, length, take};
+ghost use Rattle.std.specs.Prelude.{◌≡◌, [], ◌*◌, ◌≤◌, length, take};
+ghost use Rattle.puzzle.specs.Buffers.{buffers};
 ghost use Rattle.tables.specs.State.{machine64};
 ghost use Rattle.render.specs.WrittenCode.{HasRoom};
 ghost use Rattle.sections.specs.Sizes.{events_size};
 ghost use Rattle.trainer.specs.Call.{Call, told, bytes_of, output_size};
 ghost use Rattle.trainer.specs.Answers.{AnswersOf};
-ghost use Rattle.trainer.specs.Run.{RunOf};
-ghost use Rattle.trainer.specs.Ready.{Posed};
+ghost use Rattle.trainer.specs.Run.{RunOf, Startable};
+ghost use Rattle.trainer.specs.Ready.{Posed, Printable};
 ghost use Rattle.trainer.specs.PartsCode.{LinesOf, lists_of, state_in, Answered, Started, Stepped, EventsPut, AllPut, PrintedTo};
 
 mod lists;
@@ -88,9 +89,30 @@ impl Program {
             Ok(counts) => {
                 let map = front(&map, 1, counts.frames);
                 let cr3s = front(&cr3s, 1, counts.processors);
-                let words = front(&words, paging::FRAME_WORDS, counts.frames);
+                let words = &mut words[..paging::FRAME_WORDS * counts.frames as usize];
                 let events = front(&events, 4, counts.events);
                 let questions = front(&questions, 3, counts.questions);
+                self.put(printer, map, cr3s, words, events, questions);
+                Written::Lines(printer.len() as u64)
+            }
+        }
+    }
+
+    // Kept: the lists as parameters, since a run changes the words, and `Lists` lends them as they were read.
+    fn put(
+        self,
+        printer: &mut Printer<'_>,
+        map: &[u64],
+        cr3s: &[u64],
+        words: &mut [u64],
+        events: &[u64],
+        questions: &[u64],
+    )
+        requires { HasRoom printer.old output_size × Printable (buffers map.now cr3s.now words.old events.now questions.now) }
+        ensures { AllPut (LinesOf self) (buffers map.now cr3s.now words.old events.now questions.now) printer.old printer.new }
+    {
+        match self {
+            Program::Answers => {
                 let lists = Lists {
                     map,
                     cr3s,
@@ -98,19 +120,9 @@ impl Program {
                     events,
                     questions,
                 };
-                self.put(&lists, printer);
-                Written::Lines(printer.len() as u64)
+                lists.put_answers(printer);
             }
-        }
-    }
-
-    fn put(self, lists: &Lists<'_>, printer: &mut Printer<'_>)
-        requires { HasRoom printer.old output_size }
-        ensures { AllPut (LinesOf self) (lists_of lists.now) printer.old printer.new }
-    {
-        match self {
-            Program::Answers => lists.put_answers(printer),
-            Program::Run => lists.put_run(printer),
+            Program::Run => put_run(printer, map, cr3s, words, events),
         }
     }
 }
@@ -156,37 +168,35 @@ impl Lists<'_> {
             self.put_answer(printer, q);
         }
     }
+}
 
-    // ---- run
+// ---- run
 
-    // The machine wants exact lengths: four tables with their records, and eight slots, to a processor.
-    fn put_run(&self, printer: &mut Printer<'_>)
-        requires { HasRoom printer.old output_size }
-        ensures { AllPut RunOf (lists_of self.now) printer.old printer.new }
-    {
-        let mut buffer = [0u64; sections::WORDS_SIZE];
-        let stored = &mut buffer[..self.words.len()];
-        paging::copy(stored, self.words);
-        let mut pool = [0u64; POOL_SIZE];
-        let mut records = [0u64; RECORDS_SIZE];
-        let mut slots = [0u64; SLOTS_SIZE];
-        let p = self.cr3s.len();
-        let mut session = Session {
-            map: self.map,
-            sizes: Sizes {
-                frames: self.map.len() as u64,
-                processors: p as u64,
-                share: 4,
-                base: 1 << 20,
-            },
-            words: stored,
-            pool: &mut pool[..SHARE_WORDS * p],
-            records: &mut records[..SHARE_RECORDS * p],
-            slots: &mut slots[..SHARE_SLOTS * p],
-        };
-        session.set_up(self.cr3s);
-        session.put_events(printer, self.events);
-    }
+// The events change the puzzle's own words. The machine wants exact lengths: four tables with their records, and eight slots,
+// to a processor.
+fn put_run(printer: &mut Printer<'_>, map: &[u64], cr3s: &[u64], words: &mut [u64], events: &[u64])
+    requires { HasRoom printer.old output_size × (length events.now ≤ events_size) × Startable map.now cr3s.now }
+    ensures { AllPut RunOf (buffers map.now cr3s.now words.old events.now []) printer.old printer.new }
+{
+    let mut pool = [0u64; POOL_SIZE];
+    let mut records = [0u64; RECORDS_SIZE];
+    let mut slots = [0u64; SLOTS_SIZE];
+    let p = cr3s.len();
+    let mut session = Session {
+        map,
+        sizes: Sizes {
+            frames: map.len() as u64,
+            processors: p as u64,
+            share: 4,
+            base: 1 << 20,
+        },
+        words,
+        pool: &mut pool[..SHARE_WORDS * p],
+        records: &mut records[..SHARE_RECORDS * p],
+        slots: &mut slots[..SHARE_SLOTS * p],
+    };
+    session.set_up(cr3s);
+    session.put_events(printer, events);
 }
 
 // A run's session with the machine: what it is made for, and the buffers that it changes.

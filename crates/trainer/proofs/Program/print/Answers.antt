@@ -1,7 +1,8 @@
 -- The text is read, and its refusal or the program's lines are written.
-use mathlib.Core.Path.{ap, subst, subst⁻¹}
-use Prim.Native.Nat.{ℕ}
+use mathlib.Core.Path.{refl, sym, ap, subst, subst⁻¹}
+use Prim.Native.Nat.{ℕ, ◌*◌}
 use native.Mathlib.Omega.{arith}
+use lib.Seq.{length-take-le}
 use Rattle.sections.specs.Sections.{got, refused}
 use Rattle.rules.specs.Refusal.{number_of}
 use Rattle.puzzle.specs.Buffers.{Buffers, buffers, result_of}
@@ -31,8 +32,16 @@ front-map-requires c = (took_of (goal.at.front-map-requires c).In-Ok).counts.map
 pub front-cr3s-requires : goal.front-cr3s-requires
 front-cr3s-requires c = (took_of (goal.at.front-cr3s-requires c).In-Ok).counts.cr3s
 
-pub front-words-requires : goal.front-words-requires
-front-words-requires c = (took_of (goal.at.front-words-requires c).In-Ok).counts.words
+pub overflow_mul-words : goal.overflow_mul-words
+overflow_mul-words c = omega (arith, (took_of (goal.at.overflow_mul-words c).In-Ok).counts.words, c.read.auto.words)
+
+pub slice_bounds-words-end : goal.slice_bounds-words-end
+slice_bounds-words-end c = (took_of (goal.at.slice_bounds-words-end c).In-Ok).counts.words
+
+pub slice_bounds-words-end-in-Ok : goal.slice_bounds-words-end-in-Ok
+slice_bounds-words-end-in-Ok c =
+    let fits = (took_of (goal.at.slice_bounds-words-end-in-Ok c).In-Ok).counts.words in
+    sym (length-take-le (512 * c.in-Ok.counts.frames) c.read.new.words fits)
 
 pub front-events-requires : goal.front-events-requires
 front-events-requires c = (took_of (goal.at.front-events-requires c).In-Ok).counts.events
@@ -40,14 +49,15 @@ front-events-requires c = (took_of (goal.at.front-events-requires c).In-Ok).coun
 pub front-questions-requires : goal.front-questions-requires
 front-questions-requires c = (took_of (goal.at.front-questions-requires c).In-Ok).counts.questions
 
-pub invariant_of-lists : goal.invariant_of-lists
-invariant_of-lists c =
-    let t = took_of (goal.at.invariant_of-lists c).In-Ok in
-    record { ready = subst⁻¹ Printable (fronts_are t c.front-map.ensures c.front-cr3s.ensures c.front-words.ensures c.front-events.ensures c.front-questions.ensures) t.ready }
+pub put-requires : goal.put-requires
+put-requires c =
+    let t = took_of (goal.at.put-requires c).In-Ok in
+    let lists = fronts_are t c.front-map.ensures c.front-cr3s.ensures refl c.front-events.ensures c.front-questions.ensures in
+    (c.requires.0, subst⁻¹ Printable lists t.ready)
 
 pub returns-in-Ok : goal.returns-in-Ok
 returns-in-Ok c =
     let t = took_of (goal.at.returns-in-Ok c).In-Ok in
-    let lists = fronts_are t c.front-map.ensures c.front-cr3s.ensures c.front-words.ensures c.front-events.ensures c.front-questions.ensures in
+    let lists = fronts_are t c.front-map.ensures c.front-cr3s.ensures refl c.front-events.ensures c.front-questions.ensures in
     let r = c.put.ensures in
     printed (got t.puzzle t.place) t.is (subst (λ (b : Buffers). LinesOf c.args.self b r.bytes) lists r.lines) r.puts c.requires.1 r.few (ap Bytes c.len-in-Ok.ensures)
