@@ -31,6 +31,8 @@ struct Known<'a> {
 // ---- entries and records
 
 // At a frame's note stands its place in the map (a map of 256 frames at most: a byte), or that of another frame with this note.
+// Inlined, here and in tally: else the array is copied, and lies on the stack twice.
+#[inline(always)]
 fn hints_of(map: &[u64]) -> [u8; 4096] {
     let mut hints = [0u8; 4096];
     for (i, f) in map.iter().enumerate() {
@@ -162,6 +164,7 @@ impl<'a> Known<'a> {
     }
 
     // One pass over the pool counts the names of all tables.
+    #[inline(always)]
     fn tally(&self) -> [u64; 64]
         ensures { Tallied self.now.m.sizes self.now.pool.now result (table_count (machine64 self.now.m.sizes)) }
     {
