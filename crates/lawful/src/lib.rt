@@ -31,14 +31,11 @@ struct Known<'a> {
 // ---- entries and records
 
 // At a frame's note stands its place in the map (a map of 256 frames at most: a byte), or that of another frame with this note.
-// Inlined, here and in tally: else the array is copied, and lies on the stack twice.
-#[inline(always)]
-fn hints_of(map: &[u64]) -> [u8; 4096] {
-    let mut hints = [0u8; 4096];
+// The array is lent, since one that is given back lies on the stack twice.
+fn give_hints(map: &[u64], hints: &mut [u8; 4096]) {
     for (i, f) in map.iter().enumerate() {
         hints[paging::noted_at(*f)] = (i % 256) as u8;
     }
-    hints
 }
 
 // Whether an entry is made of its own rights and frame, of the D given, and of nothing else.
@@ -164,7 +161,6 @@ impl<'a> Known<'a> {
     }
 
     // One pass over the pool counts the names of all tables.
-    #[inline(always)]
     fn tally(&self) -> [u64; 64]
         ensures { Tallied self.now.m.sizes self.now.pool.now result (table_count (machine64 self.now.m.sizes)) }
     {
@@ -287,14 +283,17 @@ impl<'a> Known<'a> {
     }
 }
 
-// Whether all state rules hold.
+// Whether all state rules hold. A function of its own when it runs too, as paging's map_fits: their arrays never lie on the stack at once.
+#[inline(never)]
 pub fn is_lawful(map: &[u64], pool: &[u64], records: &[u64], slots: &[u64], m: Ranged) -> bool
     requires { slots_size * m.sizes.processors ≤ length slots.now }
     ensures { (words : List ℕ) → result ≡ lawful (machine64 m.sizes) map.now (state_of words (shadow_of pool.now records.now) slots.now) }
 {
+    let mut hints = [0u8; 4096];
+    give_hints(map, &mut hints);
     let known = Known {
         map,
-        hints: &hints_of(map),
+        hints: &hints,
         pool,
         records,
         slots,

@@ -312,6 +312,8 @@ fn is_new_by(map: &[u64], notes: &[u8; 4096], n: usize, f: u64) -> bool
 }
 
 // No frame repeats, and none is 2^40 or more. Notes make the test of most maps linear; what they held before does not matter.
+// A function of its own when it runs too, so that the notes leave the stack before the state rules are asked.
+#[inline(never)]
 pub fn map_fits(map: &[u64]) -> bool
     ensures { result ≡ map_fits (2 ^ 40) map.now }
 {
