@@ -110,7 +110,7 @@ impl State {
         ensures { (self.new.given ≡ self.old.given) × (self.new.map ≡ self.old.map) }
     {
         let before = *self;
-        let r = self.answer(asked, numbers);
+        let r = shadow::by_number(self.answer(asked, numbers));
         print(rt, b":")?;
         print_numbers(
             rt,

@@ -35,7 +35,8 @@ use Rattle.sections.specs.Sections.{Got, got, refused, Puzzle, puzzle_of}
 use Rattle.puzzle.specs.Buffers.{Refused as Unread, Buffers, After, answer, sized, read_call}
 use Rattle.puzzle.proofs.Theorems.{ten_or_eleven}
 use Rattle.render.specs.Render.{render_refusal}
-use Rattle.trainer.specs.Call.{Told, puzzle_in, told_of, output_size, Lines, Prints, Printed}
+use Rattle.trainer.specs.declared.Told.{Told}
+use Rattle.trainer.specs.Call.{puzzle_in, told_of, output_size, Lines, Prints, Printed}
 use Rattle.flamecurl.specs.Exports.{list_numbers, event_numbers, read_numbers, written_numbers, ListExport, SetupExport, EventExport, ReadExport, PrintExport}
 use Rattle.demands.specs.Refuses.{Refuses, read_number, read_line}
 use Rattle.demands.proofs.Given.{given, refuses, setup_refused, setup_done, setup_number, event_refused, event_number}

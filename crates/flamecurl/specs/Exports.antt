@@ -10,7 +10,9 @@ use Rattle.listing.specs.Call.{Asked, Lent, ListCall}
 use Rattle.shadow.specs.declared.Answer.{Answer}
 use Rattle.shadow.specs.After.{after}
 use Rattle.puzzle.specs.Buffers.{ReadResult, Accepted, Refused, Buffers, read_call}
-use Rattle.trainer.specs.Call.{Told, Bytes, RefusedText, Refused as Unwritten, Lines, Call}
+use Rattle.trainer.specs.declared.Told.{Told}
+use Rattle.trainer.specs.declared.Told.TheVariants.{Bytes, RefusedText, Refused as Unwritten}
+use Rattle.trainer.specs.Call.{Lines, Call}
 use Rattle.shadow.specs.Answer.{replies}
 use Rattle.shadow.specs.Setup.{after_setup}
 use Rattle.listing.specs.Call as listing

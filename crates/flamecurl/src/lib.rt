@@ -92,7 +92,7 @@ pub fn flamecurl_setup(
 {
     let z = sizes_of(frames, processors, share, base);
     let r = shadow::setup(map, cr3s, pool, records, slots, z);
-    shadow::refusal_of(r)
+    shadow::refusal_of(shadow::by_number(r))
 }
 
 // One event of the machine. The answer: refusal, kind, value.
@@ -119,7 +119,7 @@ pub fn flamecurl_event(
     }
     let z = sizes_of(frames, processors, share, base);
     let e = event_from(processor, kind, a, b);
-    let r = shadow::event(map, words, pool, records, slots, z, e);
+    let r = shadow::by_number(shadow::event(map, words, pool, records, slots, z, e));
     let numbers = [
         shadow::refusal_of(r),
         shadow::kind_of(r),

@@ -32,18 +32,26 @@ pub enum Answer {
     NoStep,
 }
 
-// Kept, here and in kind_of and value_of: public functions of their own, whose numbers are the C interface's answer.
-pub fn refusal_of(a: Result<Answer, Refusal>) -> u64
-    ensures { result ≡ refusal_of (by_number a) }
+// An answer with its refusal as the number of document 01.
+pub fn by_number(a: Result<Answer, Refusal>) -> Result<Answer, u64>
+    ensures { result ≡ by_number a }
+{
+    a.map_err(u64::from)
+}
+
+// Kept, here and in kind_of and value_of: public functions of their own, whose numbers are the C interface's answer. They
+// take any refused number, also one that no call gives.
+pub fn refusal_of(a: Result<Answer, u64>) -> u64
+    ensures { result ≡ refusal_of a }
 {
     match a {
         Ok(_) => 0,
-        Err(refusal) => u64::from(refusal),
+        Err(number) => number,
     }
 }
 
-pub fn kind_of(a: Result<Answer, Refusal>) -> u64
-    ensures { result ≡ kind_of (by_number a) }
+pub fn kind_of(a: Result<Answer, u64>) -> u64
+    ensures { result ≡ kind_of a }
 {
     match a {
         Ok(Answer::Address(_)) => 1,
@@ -54,8 +62,8 @@ pub fn kind_of(a: Result<Answer, Refusal>) -> u64
     }
 }
 
-pub fn value_of(a: Result<Answer, Refusal>) -> u64
-    ensures { result ≡ value_of (by_number a) }
+pub fn value_of(a: Result<Answer, u64>) -> u64
+    ensures { result ≡ value_of a }
 {
     match a {
         Ok(Answer::Address(value) | Answer::Fault(value)) => value,

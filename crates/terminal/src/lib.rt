@@ -8,7 +8,7 @@ ghost use Rattle.std.specs.Prelude.{◌≤◌, length, IfOk};
 use std::io;
 use std::io::Read;
 use std::process::ExitCode;
-use trainer::{OUTPUT_SIZE, Program};
+use trainer::{OUTPUT_SIZE, Program, Told};
 
 // One byte more than a text may have.
 const ASKED: usize = sections::TEXT_SIZE + 1;
@@ -37,7 +37,7 @@ fn write_lines(
     program: Program,
 ) -> io::Result<()> {
     let r = trainer::print(text, output, program);
-    let n = trainer::bytes_of(r) as usize;
+    let n = trainer::bytes_of(Told::of(r)) as usize;
     rt.write_all(&output[..n])
 }
 

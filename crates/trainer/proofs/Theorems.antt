@@ -22,7 +22,8 @@ use Rattle.puzzle.proofs.Fits.{event-fits}
 use Rattle.render.specs.Render.{render_question}
 use Rattle.trainer.specs.declared.Written.{Written}
 use Rattle.trainer.specs.declared.Written.TheVariants.{Lines as Wrote, Refused as RefusedOne}
-use Rattle.trainer.specs.Call.{posed, puzzle_in, Lines, Prints, Call, Told, told, told_of, bytes_of}
+use Rattle.trainer.specs.declared.Told.{Told}
+use Rattle.trainer.specs.Call.{posed, puzzle_in, Lines, Prints, Call, told, told_of, bytes_of}
 use Rattle.trainer.specs.Answers.{AnswersOf, AnswersCall}
 use Rattle.trainer.specs.Run.{sizes_of, RunOf, RunCall, Startable}
 use Rattle.trainer.proofs.Turns.{joined_same, one_right}

@@ -7,7 +7,8 @@ use Rattle.rules.specs.Outcome.{RightAt}
 use Rattle.rules.specs.Numbers.{events_of, question_of}
 use Rattle.puzzle.specs.Buffers.{Buffers}
 use Rattle.render.specs.Render.{render_question}
-use Rattle.trainer.specs.Call.{joined, Lines, Told, Call}
+use Rattle.trainer.specs.declared.Told.{Told}
+use Rattle.trainer.specs.Call.{joined, Lines, Call}
 
 -- a list of outcomes of a question after all events is right; each question starts from the puzzle's own words
 abbrev pub RightOf : List ℕ → List ℕ → List ℕ → List ℕ → Question → List Outcome → Type 0

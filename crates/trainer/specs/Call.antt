@@ -5,6 +5,8 @@ use Rattle.puzzle.specs.Buffers.{Buffers, buffers, words_of}
 use Rattle.render.specs.Render.{render_refusal}
 use Rattle.rules.specs.declared.Refusal.{Refusal}
 use Rattle.rules.specs.Refusal.{number_of}
+use Rattle.trainer.specs.declared.Told.{Told}
+use Rattle.trainer.specs.declared.Told.TheVariants.{Bytes, RefusedText, Refused}
 use Rattle.trainer.specs.declared.Written.{Written}
 use Rattle.trainer.specs.declared.Written.TheVariants.{Lines as Wrote, Refused as RefusedOne}
 use Rattle.sections.specs.Sizes.{text_size}
@@ -22,13 +24,7 @@ posed z = buffers z.map z.cr3s (words_of z) z.events z.questions
 abbrev pub puzzle_in : List ℕ → Got Puzzle
 puzzle_in text = cond (leb (length text) text_size) (puzzle_of text) (refused 1 0)
 
--- what a call tells, in numbers: the bytes written for an accepted text; a refused text's number, line and bytes; or why the
--- call was refused
-pub data Told : Type 0 where
-  Bytes : ℕ → Told
-  RefusedText : ℕ → ℕ → ℕ → Told
-  Refused : ℕ → Told
-
+-- what a call tells, in numbers
 abbrev pub text_told : Written → Told
 text_told (Wrote n) = Bytes n
 text_told (RefusedOne fault n) = RefusedText (number_of fault.refusal) fault.line n

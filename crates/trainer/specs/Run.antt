@@ -9,7 +9,8 @@ use Rattle.shadow.specs.Answer.{kind_of, value_of}
 use Rattle.shadow.specs.Setup.{started}
 use Rattle.shadow.specs.Runs.{answer_of}
 use Rattle.render.specs.Render.{render_event}
-use Rattle.trainer.specs.Call.{joined, Lines, Told, Call}
+use Rattle.trainer.specs.declared.Told.{Told}
+use Rattle.trainer.specs.Call.{joined, Lines, Call}
 use Rattle.shadow.specs.Refusals.{setup_refusal}
 use Rattle.slots.specs.Slots.{slots_size}
 use Rattle.sections.specs.Sizes.{most_processors}

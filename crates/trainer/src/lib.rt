@@ -45,13 +45,34 @@ const RECORDS_SIZE: usize = SHARE_RECORDS * sections::MOST_PROCESSORS;
 
 const SLOTS_SIZE: usize = SHARE_SLOTS * sections::MOST_PROCESSORS;
 
+// What a call tells, in the numbers of document 01: the bytes written for an accepted text; a refused text's number, line and
+// bytes; or why the call was refused. Kept: numbers, also such as no call tells, for bytes_of.
+#[derive(Clone, Copy)]
+pub enum Told {
+    Bytes(u64),
+    RefusedText(u64, u64, u64),
+    Refused(u64),
+}
+
+impl Told {
+    pub fn of(r: Result<Written, Refusal>) -> Told
+        ensures { result ≡ told r }
+    {
+        match r {
+            Ok(Written::Lines(n)) => Told::Bytes(n),
+            Ok(Written::Refused(fault, n)) => Told::RefusedText(fault.number(), fault.line, n),
+            Err(refusal) => Told::Refused(u64::from(refusal)),
+        }
+    }
+}
+
 // None for a refused call.
-pub fn bytes_of(r: Result<Written, Refusal>) -> u64
-    ensures { result ≡ bytes_of (told r) }
+pub fn bytes_of(t: Told) -> u64
+    ensures { result ≡ bytes_of t }
 {
-    match r {
-        Ok(Written::Lines(n) | Written::Refused(_, n)) => n,
-        Err(_) => 0,
+    match t {
+        Told::Bytes(n) | Told::RefusedText(_, _, n) => n,
+        Told::Refused(_) => 0,
     }
 }
 
@@ -250,7 +271,8 @@ impl Session<'_> {
         for (k, e) in events.iter().enumerate() {
             let answer = self.event(rules::event_at(e, 0));
             let index = (k + 1) as u64;
-            printer.put_event(index, shadow::kind_of(answer), shadow::value_of(answer));
+            let numbered = shadow::by_number(answer);
+            printer.put_event(index, shadow::kind_of(numbered), shadow::value_of(numbered));
         }
     }
 }

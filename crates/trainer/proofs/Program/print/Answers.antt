@@ -7,7 +7,8 @@ use Rattle.sections.specs.Sections.{got, refused}
 use Rattle.rules.specs.Refusal.{number_of}
 use Rattle.puzzle.specs.Buffers.{Buffers, buffers, result_of}
 use Rattle.render.specs.Render.{render_refusal}
-use Rattle.trainer.specs.Call.{puzzle_in, Bytes, RefusedText}
+use Rattle.trainer.specs.declared.Told.TheVariants.{Bytes, RefusedText}
+use Rattle.trainer.specs.Call.{puzzle_in}
 use Rattle.trainer.specs.PartsCode.{LinesOf}
 use Rattle.trainer.specs.Ready.{Printable}
 use Rattle.trainer.proofs.Wholes.{Took, zeros, says, read_refused, took, fronts_are, printed}
