@@ -152,9 +152,7 @@ impl Lists<'_> {
     // ---- answers
 
     // The list call leaves the stores done in the words, so each question takes a copy of the puzzle's own.
-    // `Posed` excludes a refusal, so that `unwrap_or` never gives its 0. Here and in put_run: a function of its own when it runs
-    // too, so that the reader's arrays and those of the answers never lie on the stack at once.
-    #[inline(never)]
+    // `Posed` excludes a refusal, so that `unwrap_or` never gives its 0.
     fn put_answer(&self, printer: &mut Printer<'_>, q: Question)
         requires { HasRoom printer.old 922 × Posed (lists_of self.now) q }
         ensures { Answered (lists_of self.now) q printer.old printer.new }
@@ -197,7 +195,6 @@ impl Lists<'_> {
 
 // The events change the puzzle's own words. The machine wants exact lengths: four tables with their records, and eight slots,
 // to a processor.
-#[inline(never)]
 fn put_run(printer: &mut Printer<'_>, map: &[u64], cr3s: &[u64], words: &mut [u64], events: &[u64])
     requires { HasRoom printer.old output_size × (length events.now ≤ events_size) × Startable map.now cr3s.now }
     ensures { AllPut RunOf (buffers map.now cr3s.now words.old events.now []) printer.old printer.new }
