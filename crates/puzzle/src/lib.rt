@@ -145,6 +145,8 @@ fn are_sized(
 
 // The text is judged first; only then is anything written, so that a refusal changes nothing.
 // Kept: five buffers, here and in read_sections, fill, since the C interface lends them one by one (`flamecurl_read`).
+// A function of its own when it runs too, as trainer's `put` is: its 128 KiB of pairs then stand on the stack while it reads alone.
+#[inline(never)]
 #[tactic(auto, using(crate::proofs::Calls::refused_answer), unfolding(crate::specs::Buffers::read_call))]
 pub fn read(
     text: &[u8],

@@ -120,6 +120,8 @@ impl Program {
     }
 
     // Kept: the lists as parameters, since a run changes the words, and `Lists` lends them as they were read.
+    // A function of its own when it runs too, so that the 64 KiB of a copy or a pool don't stand beside what `puzzle::read` needs.
+    #[inline(never)]
     fn put(
         self,
         printer: &mut Printer<'_>,
