@@ -26,20 +26,32 @@ pub record OnPath (M : Machine) (l : ℕ) (w : Path) : Type 0 where
   pub table : w.table ≤ table_count M
   pub rights : w.rights < 8
 
-descend_range : (M : Machine) (pool : List ℕ) (page n l : ℕ) (w : Path) → OnPath M l w → OnPath M (l - n) (descend M pool page n w)
+-- the same but for rights, which are in range where those that the path starts with are
+pub record Stands (M : Machine) (l : ℕ) (w : Path) : Type 0 where
+  pub level : w.level ≡ l
+  pub table : w.table ≤ table_count M
+
+descend_range : (M : Machine) (pool : List ℕ) (page n l : ℕ) (w : Path) → Stands M l w → Stands M (l - n) (descend M pool page n w)
 unfolding descend
-descend_range M pool page zero l w on = record { level = omega (arith, on.level); table = on.table; rights = on.rights }
+descend_range M pool page zero l w on = record { level = omega (arith, on.level); table = on.table }
 descend_range M pool page (suc n) l w on =
     let e = next_entry M pool page w in
     let r = descend_range M pool page n (l - 1) (down M w e)
-    (record { level = omega (arith, on.level); table = named_small M e; rights = meet_small w.rights (rights_of M.tables e) }) in
-    record { level = omega (arith, r.level); table = r.table; rights = r.rights }
+    (record { level = omega (arith, on.level); table = named_small M e }) in
+    record { level = omega (arith, r.level); table = r.table }
+
+descend_rights : (M : Machine) (pool : List ℕ) (page n : ℕ) (w : Path) → w.rights < 8 → (descend M pool page n w).rights < 8
+unfolding descend
+descend_rights M pool page zero w h = h
+descend_rights M pool page (suc n) w h =
+    let e = next_entry M pool page w in
+    descend_rights M pool page n (down M w e) (meet_small w.rights (rights_of M.tables e))
 
 pub path_range : (M : Machine) (pool : List ℕ) (p page l : ℕ) → root_of M p ≤ table_count M → l ≤ M.tables.levels → OnPath M l (path_to M pool p page l)
 path_range M pool p page l h hl =
-    let r = descend_range M pool page (M.tables.levels - l) M.tables.levels (top M p)
-    (record { level = refl; table = h; rights = omega arith }) in
-    record { level = omega (arith, r.level); table = r.table; rights = r.rights }
+    let n = M.tables.levels - l in
+    let r = descend_range M pool page n M.tables.levels (top M p) (record { level = refl; table = h }) in
+    record { level = omega (arith, r.level); table = r.table; rights = descend_rights M pool page n (top M p) (omega arith) }
 
 module _ (M : Machine) (map : List ℕ) (p a r : ℕ) (s : State) where
   abbrev by_all : ℕ → Request → ℕ → Path → ℕ → Reply
