@@ -23,8 +23,8 @@ on-path c =
     subst⁻¹ (OnPath (machine64 a.m.sizes) 1) c.path_to-w.ensures
     (path_range (machine64 a.m.sizes) a.pool.now a.p c.page_of-page.result 1 (omega (arith, root_small c.args.m.sized a.p c.requires.ready.owner.own)) (omega arith))
 
-index_is : (c : After-index_of) → OnPath (machine64 c.args.m.sizes) 1 c.path_to-w.result → c.index_of.result ≡ index tables64 c.page_of-page.result c.path_to-w.result.level
-index_is c on = c.index_of.ensures ∙ ap (index tables64 c.page_of-page.result) (sym on.level)
+index_is : (c : After-index_of) → c.path_to-w.result.level ≡ 1 → c.index_of.result ≡ index tables64 c.page_of-page.result c.path_to-w.result.level
+index_is c level = c.index_of.ensures ∙ ap (index tables64 c.page_of-page.result) (sym level)
 
 pub serving_slot-requires : goal.serving_slot-requires
 serving_slot-requires c = (omega (arith, c.requires.ready.owner.own, c.args.m.sized.processors), c.requires.ready.owner.triples)
@@ -40,7 +40,7 @@ returns-then-path_serves c =
     let a = c.args in
     access_path (machine64 a.m.sizes) a.map.now a.p a.a a.request (state_of a.words.now (shadow_of a.pool.now a.records.now) a.slots.now)
     c.page_of-page.ensures c.request_of-q.ensures refl c.in_default.ensures
-    c.path_to-w.result _ _ c.path_to-w.ensures (index_is (goal.at.returns-then-path_serves c).After-index_of (on-path (goal.at.returns-then-path_serves c).After-path_to-w)) c.entry_at-e.ensures
+    c.path_to-w.result _ _ c.path_to-w.ensures (index_is (goal.at.returns-then-path_serves c).After-index_of (on-path (goal.at.returns-then-path_serves c).After-path_to-w).level) c.entry_at-e.ensures
     (sym c.path_serves.ensures ∙ c.if-path_serves.true)
     (c.host_address-then-path_serves.ensures ∙ ap (λ (f : ℕ). host_address (host f) a.a) c.frame_of.ensures)
 
@@ -52,6 +52,6 @@ returns c =
     let a = c.args in
     access_miss (machine64 a.m.sizes) a.map.now a.p a.a a.request (state_of a.words.now (shadow_of a.pool.now a.records.now) a.slots.now)
     c.page_of-page.ensures c.request_of-q.ensures refl c.in_default.ensures
-    c.path_to-w.result _ _ c.path_to-w.ensures (index_is (goal.at.returns c).After-index_of (on-path (goal.at.returns c).After-path_to-w)) c.entry_at-e.ensures
+    c.path_to-w.result _ _ c.path_to-w.ensures (index_is (goal.at.returns c).After-index_of (on-path (goal.at.returns c).After-path_to-w).level) c.entry_at-e.ensures
     (sym c.path_serves.ensures ∙ c.if-path_serves.false)
     c.miss.ensures
