@@ -27,11 +27,11 @@ pub record OnPath (M : Machine) (l : ℕ) (w : Path) : Type 0 where
   pub rights : w.rights < 8
 
 -- the same but for rights, which are in range where those that the path starts with are
-pub record Stands (M : Machine) (l : ℕ) (w : Path) : Type 0 where
+pub record AtTable (M : Machine) (l : ℕ) (w : Path) : Type 0 where
   pub level : w.level ≡ l
   pub table : w.table ≤ table_count M
 
-descend_range : (M : Machine) (pool : List ℕ) (page n l : ℕ) (w : Path) → Stands M l w → Stands M (l - n) (descend M pool page n w)
+descend_range : (M : Machine) (pool : List ℕ) (page n l : ℕ) (w : Path) → AtTable M l w → AtTable M (l - n) (descend M pool page n w)
 unfolding descend
 descend_range M pool page zero l w on = record { level = omega (arith, on.level); table = on.table }
 descend_range M pool page (suc n) l w on =

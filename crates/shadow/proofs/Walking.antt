@@ -26,9 +26,9 @@ EndsBelow limit (Err stop) = base_of stop ≤ 9
 abbrev pub HasRights : Ended → Type 0
 HasRights r = IfOk r (λ x. x.walk.rights < 8)
 
-in_range : (limit : ℕ) (r : Ended) → EndsBelow limit r → HasRights r → InRange limit r
-in_range limit (Ok x) below rights = (below, rights)
-in_range limit (Err stop) below rights = below
+ends_in_range : (limit : ℕ) (r : Ended) → EndsBelow limit r → HasRights r → InRange limit r
+ends_in_range limit (Ok x) below rights = (below, rights)
+ends_in_range limit (Err stop) below rights = below
 
 code_small : (stop : Stop) → base_of stop ≤ 9
 code_small Absent = omega arith
@@ -71,4 +71,4 @@ module _ (Y : Layout) (G page limit : ℕ) (most : G ≤ limit) where
   guest_range words cr3 h e =
       let q = ap (λ (d : GuestWalk). d.ended) e in
       let w = start Y cr3 in
-      rw q (in_range limit _ (walk_range Y.levels words cr3 w h h) (walk_rights Y.levels words cr3 w (omega arith)))
+      rw q (ends_in_range limit _ (walk_range Y.levels words cr3 w h h) (walk_rights Y.levels words cr3 w (omega arith)))
