@@ -47,11 +47,16 @@ descend_rights M pool page (suc n) w h =
     let e = next_entry M pool page w in
     descend_rights M pool page n (down M w e) (meet_small w.rights (rights_of M.tables e))
 
+descend_on_path : (M : Machine) (pool : List ℕ) (page n l : ℕ) (w : Path) → OnPath M l w → OnPath M (l - n) (descend M pool page n w)
+descend_on_path M pool page n l w on =
+    let r = descend_range M pool page n l w (record { level = on.level; table = on.table }) in
+    record { level = r.level; table = r.table; rights = descend_rights M pool page n w on.rights }
+
 pub path_range : (M : Machine) (pool : List ℕ) (p page l : ℕ) → root_of M p ≤ table_count M → l ≤ M.tables.levels → OnPath M l (path_to M pool p page l)
 path_range M pool p page l h hl =
-    let n = M.tables.levels - l in
-    let r = descend_range M pool page n M.tables.levels (top M p) (record { level = refl; table = h }) in
-    record { level = omega (arith, r.level); table = r.table; rights = descend_rights M pool page n (top M p) (omega arith) }
+    let r = descend_on_path M pool page (M.tables.levels - l) M.tables.levels (top M p)
+    (record { level = refl; table = h; rights = omega arith }) in
+    record { level = omega (arith, r.level); table = r.table; rights = r.rights }
 
 module _ (M : Machine) (map : List ℕ) (p a r : ℕ) (s : State) where
   abbrev by_all : ℕ → Request → ℕ → Path → ℕ → Reply

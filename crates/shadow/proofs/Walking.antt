@@ -67,8 +67,11 @@ module _ (Y : Layout) (G page limit : ℕ) (most : G ≤ limit) where
       e : ℕ
       e = get Y words w.frame.0 (index Y page w.level)
 
+  walk_in_range : (n : ℕ) (words : List ℕ) (last : Guest) (w : Walk) → last.0 < limit → w.frame.0 < limit → w.rights < 8
+      → InRange limit (walk_from Y G page n words last w).ended
+  walk_in_range n words last w hl hf hr = ends_in_range limit _ (walk_range n words last w hl hf) (walk_rights n words last w hr)
+
   pub guest_range : (words : List ℕ) (cr3 : Guest) → cr3.0 < limit → {words' : List ℕ} {r : Ended} → guest_walk words' r ≡ walk_guest Y G page words cr3 → InRange limit r
   guest_range words cr3 h e =
       let q = ap (λ (d : GuestWalk). d.ended) e in
-      let w = start Y cr3 in
-      rw q (ends_in_range limit _ (walk_range Y.levels words cr3 w h h) (walk_rights Y.levels words cr3 w (omega arith)))
+      rw q (walk_in_range Y.levels words cr3 (start Y cr3) h h (omega arith))
