@@ -3,7 +3,7 @@ use mathlib.Core.Path.{◌≡◌, refl, sym, ap, ◌∙◌}
 use mathlib.Core.Bool.{Bool, true, cond}
 use mathlib.Core.List.{List}
 use mathlib.Core.Logic.{inr}
-use Prim.Native.Nat.{ℕ, zero, suc, ◌+◌, ◌-◌, ◌≤◌, ◌<◌}
+use Prim.Native.Nat.{ℕ, ◌+◌, ◌-◌, ◌≤◌, ◌<◌}
 use native.Mathlib.Decide.{dec_lt}
 use native.Mathlib.Omega.{arith}
 use lib.ListN.{length, get_or}
@@ -17,7 +17,7 @@ use Rattle.paging.specs.Walk.{meet}
 use Rattle.paging.specs.Sound.{Sound}
 use Rattle.paging.proofs.Layouts.{length-put, get_with_bit, get-past}
 use Rattle.paging.proofs.Indices.{index_small}
-use Rattle.paging.proofs.Meets.{meet_small, rights_small, needs_small}
+use Rattle.paging.proofs.Meets.{rights_small, needs_small}
 use Rattle.tables.specs.declared.Path.{Path}
 use Rattle.tables.specs.State.{Machine, State, top, next_entry, descend, path_to}
 use Rattle.guest.specs.GuestWalk.{whole, guest_entry, dirtied}
@@ -27,10 +27,11 @@ use Rattle.shadow.specs.declared.Answer.TheVariants.{Again}
 use Rattle.shadow.specs.Answer.{Reply}
 use Rattle.shadow.specs.Fill.{fill}
 use Rattle.shadow.specs.Access.{after_access}
+use Rattle.shadow.proofs.Accesses.{descend_small}
 use Rattle.trees.proofs.Trees.{Able}
 use Rattle.trees.proofs.Builds.{Own}
 use Rattle.trees.proofs.Leaves.{Filled, leaf_of-right}
-use Rattle.trees.proofs.Paths.{path-on, zero_absent}
+use Rattle.trees.proofs.Paths.{zero_absent}
 use Rattle.keeps.proofs.RightStates.{Mapped, RightState}
 use Rattle.keeps.proofs.Grants.{grants_less, grants_enough}
 use Rattle.keeps.proofs.Accesses.{walked, written, filling, Way, slot, shadow, fault, lacks, again, ways}
@@ -41,11 +42,7 @@ unlike o g ne = absurd (ne (sym (ap (λ (x : Reply). x.answer) o) ∙ g))
 
 -- a path's rights are rights
 pub path_small : (M : Machine) (pool : List ℕ) (page p n : ℕ) → (descend M pool page n (top M p)).rights < 8
-unfolding descend
-path_small M pool page p zero = omega arith
-path_small M pool page p (suc n) =
-    let q : (descend M pool page (suc n) (top M p)).rights ≡ meet _ _ = ap (λ (w : Path). w.rights) (path-on M pool page n (top M p)) in
-    rw q (meet_small _ _)
+path_small M pool page p n = descend_small M pool page n (top M p) (omega arith)
 
 bit_is_set : (e : ℕ) → bit (with_bit 6 e) 6 ≡ 1
 unfolding with_bit

@@ -40,17 +40,17 @@ descend_range M pool page (suc n) l w on =
     (record { level = omega (arith, on.level); table = named_small M e }) in
     record { level = omega (arith, r.level); table = r.table }
 
-descend_rights : (M : Machine) (pool : List ℕ) (page n : ℕ) (w : Path) → w.rights < 8 → (descend M pool page n w).rights < 8
+pub descend_small : (M : Machine) (pool : List ℕ) (page n : ℕ) (w : Path) → w.rights < 8 → (descend M pool page n w).rights < 8
 unfolding descend
-descend_rights M pool page zero w h = h
-descend_rights M pool page (suc n) w h =
+descend_small M pool page zero w h = h
+descend_small M pool page (suc n) w h =
     let e = next_entry M pool page w in
-    descend_rights M pool page n (down M w e) (meet_small w.rights (rights_of M.tables e))
+    descend_small M pool page n (down M w e) (meet_small w.rights (rights_of M.tables e))
 
 descend_on_path : (M : Machine) (pool : List ℕ) (page n l : ℕ) (w : Path) → OnPath M l w → OnPath M (l - n) (descend M pool page n w)
 descend_on_path M pool page n l w on =
     let r = descend_range M pool page n l w (record { level = on.level; table = on.table }) in
-    record { level = r.level; table = r.table; rights = descend_rights M pool page n w on.rights }
+    record { level = r.level; table = r.table; rights = descend_small M pool page n w on.rights }
 
 pub path_range : (M : Machine) (pool : List ℕ) (p page l : ℕ) → root_of M p ≤ table_count M → l ≤ M.tables.levels → OnPath M l (path_to M pool p page l)
 path_range M pool p page l h hl =

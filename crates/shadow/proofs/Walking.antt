@@ -56,12 +56,12 @@ module _ (Y : Layout) (G page limit : ℕ) (most : G ≤ limit) where
       e : ℕ
       e = get Y words w.frame.0 (index Y page w.level)
 
-  walk_rights : (n : ℕ) (words : List ℕ) (last : Guest) (w : Walk) → w.rights < 8 → HasRights (walk_from Y G page n words last w).ended
+  walk_small : (n : ℕ) (words : List ℕ) (last : Guest) (w : Walk) → w.rights < 8 → HasRights (walk_from Y G page n words last w).ended
   unfolding walk_from
-  walk_rights zero words last w hr = hr
-  walk_rights (suc n) words last w hr =
+  walk_small zero words last w hr = hr
+  walk_small (suc n) words last w hr =
       by_end HasRights words last w _ (step Y G w e) hr (λ stop. tt) (λ w' q. let g = goes Y G w e w' q in
-      walk_rights n (put Y words w.frame.0 (index Y page w.level) (with_a e)) w.frame w'
+      walk_small n (put Y words w.frame.0 (index Y page w.level) (with_a e)) w.frame w'
       (omega (arith, ap (λ (x : Walk). x.rights) g.is, meet_small w.rights (rights_of Y e))))
     where
       e : ℕ
@@ -69,7 +69,7 @@ module _ (Y : Layout) (G page limit : ℕ) (most : G ≤ limit) where
 
   walk_in_range : (n : ℕ) (words : List ℕ) (last : Guest) (w : Walk) → last.0 < limit → w.frame.0 < limit → w.rights < 8
       → InRange limit (walk_from Y G page n words last w).ended
-  walk_in_range n words last w hl hf hr = ends_in_range limit _ (walk_range n words last w hl hf) (walk_rights n words last w hr)
+  walk_in_range n words last w hl hf hr = ends_in_range limit _ (walk_range n words last w hl hf) (walk_small n words last w hr)
 
   pub guest_range : (words : List ℕ) (cr3 : Guest) → cr3.0 < limit → {words' : List ℕ} {r : Ended} → guest_walk words' r ≡ walk_guest Y G page words cr3 → InRange limit r
   guest_range words cr3 h e =
